@@ -1,0 +1,10 @@
+mod Nans
+mod Quotients
+mod Wholes
+mod Signs
+mod Casting
+mod Pack
+mod Narrowing
+mod Normal
+mod RootLaw
+mod RootCases

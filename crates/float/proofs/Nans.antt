@@ -1,0 +1,39 @@
+-- What a test tells of a NaN, and which patterns are a NaN's. Assumes nothing.
+use mathlib.Core.Path.{_≡_, refl, sym, ap, _∙_, subst}
+use Prim.Native.Nat.{ℕ, _*_, _%_, _≤_, _<_}
+use mathlib.Core.Bool.{Bool, true, false, not}
+use lib.Dec.{T, ltb, lt→ltb}
+use lib.Arith.{le→nltb}
+use lib.Ieee.{Float, nan, inf, fin, Format, binary32, hid, ones, top, ne, div, isNan, nanBits, ofBits}
+use lib.Ieee.Bits.{nanBits-above, nanBits-is}
+use lib.Ieee.Compare.{differs-from-itself}
+
+-- what differs from itself is a NaN, and what does not is none
+pub is-nan : (x : Float) → ne x x ≡ true → x ≡ nan
+is-nan x e = differs-from-itself x (subst T (sym e) tt)
+
+pub no-nan : (x : Float) → ne x x ≡ false → T (not (isNan x))
+unfolding ne isNan
+no-nan nan e = subst T e tt
+no-nan (inf s) e = tt
+no-nan (fin s m e′) e = tt
+
+-- the code's NaN
+pub nan-made : div binary32 (ofBits binary32 0) (ofBits binary32 0) ≡ nan
+unfolding ofBits div
+nan-made = refl
+
+-- without its sign a NaN's pattern is above the infinity's
+pub plain-bits : (f : Format) (n : ℕ) → n % top f ≤ ones f * hid f → T (not (nanBits f n))
+plain-bits f n h = subst (λ (b : Bool). T (not b)) (sym (nanBits-above f n)) (le→nltb (ones f * hid f) (n % top f) h)
+
+pub nan-bits : (f : Format) (n : ℕ) → ones f * hid f < n % top f → nan ≡ ofBits f n
+nan-bits f n h = sym (the-nan (ofBits f n) (subst T (nanBits-above′ ∙ nanBits-is f n) (lt→ltb (ones f * hid f) (n % top f) h)))
+  where
+    nanBits-above′ : ltb (ones f * hid f) (n % top f) ≡ nanBits f n
+    nanBits-above′ = sym (nanBits-above f n)
+
+    the-nan : (x : Float) → T (isNan x) → x ≡ nan
+    the-nan nan t = refl
+    the-nan (inf s) t = absurd (unfold isNan in t)
+    the-nan (fin s m e) t = absurd (unfold isNan in t)

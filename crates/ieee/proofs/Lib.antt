@@ -1,0 +1,10 @@
+pub mod Value
+pub mod Digits
+pub mod Fields
+pub mod Rounding
+pub mod Roots
+pub mod Exactly
+pub mod Sums
+pub mod Halves
+pub mod Units
+pub mod Nearest

@@ -1,0 +1,6 @@
+pub mod If
+pub mod Fill
+pub mod Update
+pub mod Iterate
+pub mod Seek
+pub mod Parts

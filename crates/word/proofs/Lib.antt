@@ -1,0 +1,3 @@
+pub mod Modulo
+mod Halves
+mod Rotation
