@@ -1,7 +1,7 @@
 -- What `unit` and `bi` compute is exact at every step; the value of a `bi`, in the words of 01, and that it is never 1. Assumes nothing.
-use mathlib.Core.Path.{_≡_, refl, sym, ap, _∙_, subst}
-use Prim.Native.Nat.{ℕ, _+_, _-_, _*_, _^_, _≤_, _<_}
-use native.Mathlib.Nat.{zero-lt-suc, le-of-lt, mul-one}
+use mathlib.Core.Path.{_≡_, refl, sym, _∙_, subst}
+use Prim.Native.Nat.{ℕ, _-_, _*_, _^_, _≤_, _<_}
+use native.Mathlib.Nat.{zero-lt-suc, le-of-lt}
 use native.Mathlib.Omega.{arith}
 use mathlib.Core.Bool.{Bool, true, false, not, cond}
 use lib.IntN.{pos}
@@ -12,7 +12,7 @@ use lib.Ieee.{Float, fin, binary32, round, sum, sub, neg, mul, div, ofInt, ofBit
 use lib.Ieee.Exact.{HasValue}
 use lib.Ieee.Back.{round-whole}
 use Rattle.ieee.specs.Whole.{exactly}
-use Rattle.ieee.proofs.Value.{mul-value, div-value, add-value, lt-value}
+use Rattle.ieee.proofs.Value.{mul-value, div-value, add-value}
 use Rattle.ieee.proofs.Exactly.{exactly-value, round-value, round-exactly}
 use Rattle.dsp.specs.Draw.{unitOf, biOf}
 

@@ -1,5 +1,5 @@
 -- How the state moves: by G a draw, whatever is drawn. Assumes nothing.
-use mathlib.Core.Path.{_≡_, refl, sym, ap, _∙_}
+use mathlib.Core.Path.{_≡_, sym, ap, _∙_}
 use Prim.Native.Nat.{ℕ, zero, suc, _+_, _*_, _/_, _%_, _^_, _<_}
 use native.Mathlib.Nat.{add-assoc, add-mul, add-zero, mod-add-mod, mod-eq-of-lt, mod-lt, lt-of-le-of-lt}
 use native.Mathlib.Numerals.{add-one}

@@ -3,6 +3,7 @@ mod Quotients
 mod Wholes
 mod Signs
 mod Casting
+mod Leading
 mod Pack
 mod Narrowing
 mod Normal

@@ -1,5 +1,5 @@
 -- What a test tells of a NaN, and which patterns are a NaN's. Assumes nothing.
-use mathlib.Core.Path.{_≡_, refl, sym, ap, _∙_, subst}
+use mathlib.Core.Path.{_≡_, refl, sym, _∙_, subst}
 use Prim.Native.Nat.{ℕ, _*_, _%_, _≤_, _<_}
 use mathlib.Core.Bool.{Bool, true, false, not}
 use lib.Dec.{T, ltb, lt→ltb}

@@ -1,54 +1,20 @@
 -- Rounding q * 2 ^ k of the smallest binary64 values to binary32, from digits that are brought to place 62; and what the three fields of an `f64`'s pattern say of its value.
 -- Assumes nothing.
-use mathlib.Core.Path.{_≡_, refl, sym, ap, _∙_, subst}
-use mathlib.Core.Logic.{_⊎_, inl, inr}
-use Prim.Native.Nat.{ℕ, zero, suc, _+_, _-_, _*_, _/_, _%_, _^_, _≤_, _<_}
-use native.Mathlib.Nat.{le-trans, le-of-eq, le-of-lt, le-refl, lt-irrefl, lt-of-lt-of-le, lt-of-le-of-lt, lt-of-not-le, add-comm, mul-comm, mul-assoc, mul-left-comm, mul-right-comm, mul-one, mul-pos, mul-le-mul-right, mul-lt-mul-of-pos-right, div-lt-iff-lt-mul, le-div-iff-mul-le, mod-eq-of-lt, zero-lt-suc, pow-suc, add-zero}
+use mathlib.Core.Path.{_≡_, refl, sym, ap, _∙_}
+use Prim.Native.Nat.{ℕ, _+_, _-_, _*_, _/_, _^_, _≤_, _<_}
+use native.Mathlib.Nat.{le-trans, le-of-eq, lt-of-lt-of-le, mul-assoc, mul-right-comm, mul-pos, mul-le-mul-right, div-lt-iff-lt-mul, le-div-iff-mul-le, zero-lt-suc}
 use native.Mathlib.Omega.{arith}
-use mathlib.Core.Bool.{Bool, true, false, not, _&&_, cond}
-use lib.IntN.{ℤ, pos, negsuc}
-use lib.Dec.{T, leb, ltb, eqb, eqb→eq, lit<, lit≤}
-use lib.Pow.{pow-add, pow-pos, pow-mono, pow-lt, shl-lt, field}
-use lib.Bits.{bitAnd, and-mask, mask-lt}
-use lib.Count.{leadingZeros, leading-top}
-use lib.Ieee.{Float, nan, inf, fin, Format, binary32, binary64, prec, emax, low, up, down, size, odd, units, round, fits, isNan, hid, ones, top, ofFields, ofBits, toBits, div}
+use mathlib.Core.Bool.{Bool, true, false, not, cond}
+use lib.Dec.{T}
+use lib.Pow.{pow-add, pow-pos, pow-mono, shl-lt}
+use lib.Ieee.{Float, inf, fin, binary32, binary64, up, down, size, units, round, fits, isNan, ofBits}
 use lib.Ieee.Fits.{round-is, down-pos}
-use lib.Ieee.Exact.{HasValue, odd-sign}
+use lib.Ieee.Exact.{HasValue}
 use lib.Ieee.Nearest.{closest, closest-same, div-same}
 use lib.Ieee.Scale.{round-same}
 use Rattle.ieee.specs.Narrow.{narrowOf}
-use Rattle.ieee.proofs.Rounding.{closest-none}
-use Rattle.float.proofs.Pack.{size-at}
-use Rattle.ieee.proofs.Fields.{as-fields, fields-top, fields-low, fields-mid}
-
--- ---- the digits at place 62
-pow-back : (i p : ℕ) → 2 ^ i < 2 ^ p → i < p
-pow-back i p h = lt-of-not-le (λ (g : p ≤ i). lt-irrefl (2 ^ i) (lt-of-lt-of-le h (pow-mono g)))
-
--- the shift, and the digits shifted
-pub placed : (q : ℕ) → 0 < q → q < 2 ^ 53 → (1 ≤ leadingZeros 64 q) × (leadingZeros 64 q ≤ 64) × (2 ^ 62 ≤ q * 2 ^ (leadingZeros 64 q - 1)) × (q * 2 ^ (leadingZeros 64 q - 1) < 2 ^ 63)
-placed q P h =
-    let t = leading-top 64 q P (lt-of-lt-of-le h (lit≤ tt)) in
-    let j = t .0 in
-    let z = leadingZeros 64 q in
-    let J : j < 53 = pow-back j 53 (lt-of-le-of-lt (t .2) h) in (
-      some z j (t .1) J,
-      most z j (t .1),
-      le-trans (le-of-eq (sym (sym (pow-add 2 j (z - 1)) ∙ ap (λ (n : ℕ). 2 ^ n) (place z j (t .1) J)))) (mul-le-mul-right (2 ^ (z - 1)) (t .2)),
-      subst (λ (n : ℕ). q * 2 ^ (z - 1) < 2 ^ n) (place′ z j (t .1) J) (shl-lt (suc j) (z - 1) (t .3)),
-    )
-  where
-    place : (z j : ℕ) → z + suc j ≡ 64 → j < 53 → j + (z - 1) ≡ 62
-    place z j e l = omega arith
-
-    place′ : (z j : ℕ) → z + suc j ≡ 64 → j < 53 → suc j + (z - 1) ≡ 63
-    place′ z j e l = omega arith
-
-    some : (z j : ℕ) → z + suc j ≡ 64 → j < 53 → 1 ≤ z
-    some z j e l = omega arith
-
-    most : (z j : ℕ) → z + suc j ≡ 64 → z ≤ 64
-    most z j e = omega arith
+use Rattle.ieee.proofs.Digits.{size-at}
+use Rattle.ieee.proofs.Fields.{theSign, theField, theDigits, is-inf, low-value, mid-value}
 
 -- ---- the rounding. The exponents are variables here, since their powers have hundreds of digits
 pow₃ : (a b c : ℕ) → 2 ^ (a + b + c) ≡ 2 ^ a * 2 ^ b * 2 ^ c
@@ -100,40 +66,28 @@ unfolding narrowOf
 narrow-at (fin t m e) s a c C v =
     (λ i. round binary32 (v .0 i) (m * up e) (down e)) ∙ round-same binary32 s (m * up e) (down e) a c (down-pos e) C (v .1)
 
--- ---- the cases of the code, at the pattern of x
+-- ---- the cases of the code, by the fields of x
 module _ (x : Float) (fit : T (fits binary64 x)) where
-  abbrev pub theSign : Bool
-  theSign = leb (2 ^ 63) (toBits binary64 x)
+  abbrev pub sign : Bool
+  sign = theSign binary64 x fit
 
-  abbrev pub theField : ℕ
-  theField = bitAnd (toBits binary64 x / 2 ^ 52) 0x7ff
+  abbrev pub field : ℕ
+  field = theField binary64 x fit
 
-  abbrev pub theDigits : ℕ
-  theDigits = bitAnd (toBits binary64 x) 0xf_ffff_ffff_ffff
+  abbrev pub digits : ℕ
+  digits = theDigits binary64 x fit
 
-  is : x ≡ ofFields binary64 theSign theField theDigits
-  is =
-      as-fields binary64 x fit
-      ∙ (λ i. ofFields binary64 theSign ((field (toBits binary64 x) 11 52 ∙ sym (and-mask (toBits binary64 x / 2 ^ 52) 11)) i) (sym (and-mask (toBits binary64 x) 52) i))
-
-  pub case-top : T (not (isNan x)) → theField ≡ 0x7ff → inf theSign ≡ narrowOf x
+  pub case-top : T (not (isNan x)) → field ≡ 0x7ff → inf sign ≡ narrowOf x
   unfolding narrowOf
-  case-top n e = sym (ap narrowOf (is ∙ fields-top binary64 theSign theField theDigits e (subst (λ (y : Float). T (not (isNan y))) is n)))
+  case-top n e = sym (ap narrowOf (is-inf binary64 x fit n e))
 
-  pub case-low : theField ≡ 0 → round binary32 theSign (theDigits * 2 ^ 0) (2 ^ 1074) ≡ narrowOf x
-  case-low e = sym (narrow-at x theSign (theDigits * 2 ^ 0) (2 ^ 1074) (pow-pos 1074) (subst (λ (y : Float). HasValue y theSign (theDigits * 2 ^ 0) (2 ^ 1074)) (sym is) (fields-low binary64 theSign theField theDigits e)))
+  pub case-low : field ≡ 0 → round binary32 sign (digits * 2 ^ 0) (2 ^ 1074) ≡ narrowOf x
+  case-low e = sym (narrow-at x sign (digits * 2 ^ 0) (2 ^ 1074) (pow-pos 1074) (low-value binary64 x fit e))
 
-  pub case-mid : (theField ≡ 0 → ⊥) → (theField ≡ 0x7ff → ⊥) → round binary32 theSign ((theDigits + 2 ^ 52) * 2 ^ (theField - 1)) (2 ^ 1074) ≡ narrowOf x
-  case-mid p n =
-      sym (narrow-at x theSign ((theDigits + 2 ^ 52) * 2 ^ (theField - 1)) (2 ^ 1074) (pow-pos 1074)
-      (subst (λ (y : Float). HasValue y theSign ((theDigits + 2 ^ 52) * 2 ^ (theField - 1)) (2 ^ 1074)) (sym is) (fields-mid binary64 theSign theField theDigits p n)))
+  pub case-mid : (field ≡ 0 → ⊥) → (field ≡ 0x7ff → ⊥) → round binary32 sign ((digits + 2 ^ 52) * 2 ^ (field - 1)) (2 ^ 1074) ≡ narrowOf x
+  case-mid p n = sym (narrow-at x sign ((digits + 2 ^ 52) * 2 ^ (field - 1)) (2 ^ 1074) (pow-pos 1074) (mid-value binary64 x fit p n))
 
--- ---- an infinity and a zero as the code writes them
-pub inf-is : (s : Bool) → ofBits binary32 (cond s (2 ^ 31) 0 + 0x7f80_0000) ≡ inf s
-unfolding ofBits
-inf-is true = refl
-inf-is false = refl
-
+-- ---- a zero as the code writes it
 zero-is : (s : Bool) → ofBits binary32 (cond s (2 ^ 31) 0 + 0) ≡ round binary32 s (0 * 2 ^ 0) (2 ^ 1074)
 unfolding ofBits round
 zero-is true = refl
@@ -141,14 +95,3 @@ zero-is false = refl
 
 pub case-zero : (s : Bool) (t : ℕ) → t ≡ 0 → ofBits binary32 (cond s (2 ^ 31) 0 + 0) ≡ round binary32 s (t * 2 ^ 0) (2 ^ 1074)
 case-zero s t e = zero-is s ∙ ap (λ (t : ℕ). round binary32 s (t * 2 ^ 0) (2 ^ 1074)) (sym e)
-
-pub field-lt : (n : ℕ) → bitAnd n 0x7ff < 2 ^ 11
-field-lt n = mask-lt n 11
-
-pub digits-lt : (n : ℕ) → bitAnd n 0xf_ffff_ffff_ffff < 2 ^ 52
-digits-lt n = mask-lt n 52
-
--- what is NaN in the code
-pub nan-is : (x : Float) → x ≡ nan → div binary32 (ofBits binary32 0) (ofBits binary32 0) ≡ narrowOf x
-unfolding ofBits div narrowOf
-nan-is x e = ap narrowOf (sym e)

@@ -1,15 +1,14 @@
 -- The pattern of an `f64` in the normal range of binary32, rounded as one number: exponent and digits together. Assumes nothing.
-use mathlib.Core.Path.{_≡_, refl, sym, ap, _∙_, subst}
-use mathlib.Core.Logic.{_⊎_, inl, inr}
+use mathlib.Core.Path.{_≡_, refl, sym, ap, _∙_}
+use mathlib.Core.Logic.{inl, inr}
 use Prim.Native.Nat.{ℕ, _+_, _-_, _*_, _/_, _%_, _^_, _≤_, _<_, compare, Ordering, Ordering·lt, Ordering·eq, Ordering·gt}
-use native.Mathlib.Nat.{eq-or-lt-of-le, le-of-eq, le-refl, mul-pos, zero-add}
+use native.Mathlib.Nat.{eq-or-lt-of-le, le-of-eq, le-refl}
 use native.Mathlib.Omega.{arith}
 use mathlib.Core.Bool.{Bool, true, false, not, cond}
 use lib.Dec.{T, leb, leb→le, nleb→lt}
 use borrow.Author.Tests.{le-leb, lt-leb}
 use lib.Pow.{pow-pos}
 use lib.Ieee.{Float, binary32, binary64, units, round, nearest, ofFields, ofBits, toBits, fits}
-use lib.Ieee.Exact.{HasValue}
 use lib.Ieee.Bits.{ofBits-toBits, toBits-lt}
 use lib.Ieee.Nearest.{closest, closest-same}
 use Rattle.ieee.specs.Narrow.{narrowOf}

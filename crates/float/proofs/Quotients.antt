@@ -1,8 +1,8 @@
 -- A / C to the nearest whole number, a tie to the even one, is A / C cut or one more; and what a comparison of it with A / C then says of A / C cut, raised, and
 -- rounded with a half raised. Assumes nothing.
-use mathlib.Core.Path.{_≡_, refl, sym, ap, _∙_, subst}
-use mathlib.Core.Logic.{_⊎_, inl, inr}
-use Prim.Native.Nat.{ℕ, suc, _+_, _-_, _*_, _/_, _%_, _≤_, _<_, compare, Ordering, Ordering·lt, Ordering·eq, Ordering·gt}
+use mathlib.Core.Path.{_≡_, refl, sym, ap, _∙_}
+use mathlib.Core.Logic.{inl, inr}
+use Prim.Native.Nat.{ℕ, _+_, _-_, _*_, _/_, _%_, _≤_, _<_, compare, Ordering, Ordering·lt, Ordering·eq, Ordering·gt}
 use native.Mathlib.Nat.{add-mul, one-mul, mul-assoc, mul-right-comm, div-add-mod', div-eq-of-lt-le, mod-lt, eq-zero-or-pos, div-one, mod-one, div-lt-iff-lt-mul, add-mul-div-right, add-mul-mod-self-right}
 use native.Mathlib.Omega.{arith}
 use lib.Ieee.{nearest}

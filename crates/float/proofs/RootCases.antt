@@ -1,21 +1,20 @@
 -- The root of an `f32` by the tests and the fields of its pattern. Assumes nothing.
 use mathlib.Core.Path.{_≡_, refl, sym, ap, _∙_, subst}
-use Prim.Native.Nat.{ℕ, zero, suc, _+_, _-_, _*_, _/_, _%_, _^_, _≤_, _<_, compare, Ordering, Ordering·lt, Ordering·eq, Ordering·gt}
-use native.Mathlib.Nat.{lt-irrefl, lt-of-lt-of-le, le-add-right, mul-assoc, mul-right-comm, mul-one, mul-pos, zero-lt-suc, zero-mul, mul-lt-mul-of-pos-right, lt-of-mul-lt-mul-right, eq-of-mul-eq-mul-right, mul-comm, le-add-left}
+use Prim.Native.Nat.{ℕ, zero, suc, _+_, _-_, _*_, _/_, _^_, _<_, compare, Ordering, Ordering·lt, Ordering·eq, Ordering·gt}
+use native.Mathlib.Nat.{lt-irrefl, lt-of-lt-of-le, le-add-right, mul-assoc, mul-right-comm, mul-pos, zero-lt-suc, zero-mul, mul-lt-mul-of-pos-right, lt-of-mul-lt-mul-right, eq-of-mul-eq-mul-right, mul-comm, le-add-left}
 use native.Mathlib.Omega.{arith}
-use mathlib.Core.Bool.{Bool, true, false, not, _&&_, _||_, Bool·beq, cond, true≢false, false≢true}
-use lib.IntN.{ℤ, pos, negsuc}
-use lib.Dec.{T, leb, ltb, eqb, lt→ltb, eqb→eq, eqb-refl}
-use borrow.Author.Tests.{ltb-true, eq-eqb}
-use lib.Pow.{pow-pos, field}
-use lib.Bits.{bitAnd, and-mask}
-use lib.Ieee.{Float, nan, inf, fin, Format, binary32, prec, low, up, down, size, nearest, units, fits, isNan, ofFields, ofBits, toBits, lt, eq, level, div}
+use mathlib.Core.Bool.{Bool, true, false, not, _||_, Bool·beq, true≢false, false≢true}
+use lib.IntN.{ℤ, pos}
+use lib.Dec.{T, ltb, eqb, lt→ltb, eqb→eq}
+use borrow.Author.Tests.{ltb-true}
+use lib.Pow.{pow-pos}
+use lib.Ieee.{Float, nan, inf, fin, Format, binary32, prec, low, up, down, size, nearest, units, fits, isNan, lt, eq, level}
 use lib.Ieee.Fits.{up-pos, down-pos, and-l}
 use lib.Ieee.Exact.{HasValue}
 use lib.Ieee.Nearest.{div-same}
 use Rattle.ieee.specs.Root.{root, rootRound, sqrtOf}
 use Rattle.ieee.proofs.Rounding.{Cmp, cmp, compare-lt, compare-eq, compare-gt}
-use Rattle.ieee.proofs.Fields.{as-fields, fields-top, fields-low, fields-mid}
+use Rattle.ieee.proofs.Fields.{theSign, theField, theDigits, is-inf, low-value, mid-value}
 
 -- ---- equal fractions have the same rounded root
 compare-same : (X Y X′ Y′ b d : ℕ) → 0 < b → 0 < d → X * d ≡ X′ * b → Y * d ≡ Y′ * b → compare X Y ≡ compare X′ Y′
@@ -126,38 +125,30 @@ value-zero (fin t zero e) s a c C z v = level-zero t (0 * up e * 1) (0 * down e)
 value-zero (fin t (suc m) e) s a c C z v =
     absurd (lt-irrefl 0 (subst (λ (k : ℕ). 0 < k) (v .1 ∙ ap (λ (k : ℕ). k * down e) z ∙ zero-mul (down e)) (mul-pos (mul-pos (zero-lt-suc m) (up-pos e)) C)))
 
--- ---- the cases of the code, at the pattern of x
+-- ---- the cases of the code, by the fields of x
 module _ (x : Float) (fit : T (fits binary32 x)) where
-  abbrev pub theSign : Bool
-  theSign = leb (2 ^ 31) (toBits binary32 x)
+  abbrev pub sign : Bool
+  sign = theSign binary32 x fit
 
-  abbrev pub theField : ℕ
-  theField = bitAnd (toBits binary32 x / 2 ^ 23) 0xff
+  abbrev pub field : ℕ
+  field = theField binary32 x fit
 
-  abbrev pub theDigits : ℕ
-  theDigits = bitAnd (toBits binary32 x) 0x7f_ffff
+  abbrev pub digits : ℕ
+  digits = theDigits binary32 x fit
 
-  is : x ≡ ofFields binary32 theSign theField theDigits
-  is =
-      as-fields binary32 x fit
-      ∙ (λ i. ofFields binary32 theSign ((field (toBits binary32 x) 8 23 ∙ sym (and-mask (toBits binary32 x / 2 ^ 23) 8)) i) (sym (and-mask (toBits binary32 x) 23) i))
+  pub case-inf : T (not (isNan x)) → lt x (fin false 0 (pos 0)) ≡ false → field ≡ 0xff → x ≡ sqrtOf x
+  case-inf n l e = root-inf x sign (is-inf binary32 x fit n e) l
 
-  pub case-inf : T (not (isNan x)) → lt x (fin false 0 (pos 0)) ≡ false → theField ≡ 0xff → x ≡ sqrtOf x
-  case-inf n l e = root-inf x theSign (is ∙ fields-top binary32 theSign theField theDigits e (subst (λ (y : Float). T (not (isNan y))) is n)) l
-
-  low-value : theField ≡ 0 → HasValue x theSign (theDigits * 2 ^ 0) (2 ^ 149)
-  low-value e = subst (λ (y : Float). HasValue y theSign (theDigits * 2 ^ 0) (2 ^ 149)) (sym is) (fields-low binary32 theSign theField theDigits e)
-
-  pub digits-pos : eq x (fin false 0 (pos 0)) ≡ false → theField ≡ 0 → 0 < theDigits
-  digits-pos z e = pos-of theDigits (λ (d : theDigits ≡ 0). true≢false (sym (value-zero x theSign (theDigits * 2 ^ 0) (2 ^ 149) (pow-pos 149) (ap (λ (k : ℕ). k * 1) d) (low-value e)) ∙ z))
+  pub digits-pos : eq x (fin false 0 (pos 0)) ≡ false → field ≡ 0 → 0 < digits
+  digits-pos z e = pos-of digits (λ (d : digits ≡ 0). true≢false (sym (value-zero x sign (digits * 2 ^ 0) (2 ^ 149) (pow-pos 149) (ap (λ (k : ℕ). k * 1) d) (low-value binary32 x fit e)) ∙ z))
     where
       pos-of : (n : ℕ) → (n ≡ 0 → ⊥) → 0 < n
       pos-of n h = omega arith
 
-  pub case-low : eq x (fin false 0 (pos 0)) ≡ false → lt x (fin false 0 (pos 0)) ≡ false → theField ≡ 0 → rootRound binary32 (theDigits * 2 ^ 0) (2 ^ 149) ≡ sqrtOf x
-  case-low z l e = root-at x theSign (theDigits * 2 ^ 0) (2 ^ 149) (mul-pos (digits-pos z e) (pow-pos 0)) (pow-pos 149) l (low-value e)
+  pub case-low : eq x (fin false 0 (pos 0)) ≡ false → lt x (fin false 0 (pos 0)) ≡ false → field ≡ 0 → rootRound binary32 (digits * 2 ^ 0) (2 ^ 149) ≡ sqrtOf x
+  case-low z l e = root-at x sign (digits * 2 ^ 0) (2 ^ 149) (mul-pos (digits-pos z e) (pow-pos 0)) (pow-pos 149) l (low-value binary32 x fit e)
 
-  pub case-mid : lt x (fin false 0 (pos 0)) ≡ false → (theField ≡ 0 → ⊥) → (theField ≡ 0xff → ⊥) → rootRound binary32 ((theDigits + 2 ^ 23) * 2 ^ (theField - 1)) (2 ^ 149) ≡ sqrtOf x
+  pub case-mid : lt x (fin false 0 (pos 0)) ≡ false → (field ≡ 0 → ⊥) → (field ≡ 0xff → ⊥) → rootRound binary32 ((digits + 2 ^ 23) * 2 ^ (field - 1)) (2 ^ 149) ≡ sqrtOf x
   case-mid l p n =
-      root-at x theSign ((theDigits + 2 ^ 23) * 2 ^ (theField - 1)) (2 ^ 149) (mul-pos (lt-of-lt-of-le (pow-pos 23) (le-add-left (2 ^ 23) theDigits)) (pow-pos (theField - 1))) (pow-pos 149) l
-      (subst (λ (y : Float). HasValue y theSign ((theDigits + 2 ^ 23) * 2 ^ (theField - 1)) (2 ^ 149)) (sym is) (fields-mid binary32 theSign theField theDigits p n))
+      root-at x sign ((digits + 2 ^ 23) * 2 ^ (field - 1)) (2 ^ 149) (mul-pos (lt-of-lt-of-le (pow-pos 23) (le-add-left (2 ^ 23) digits)) (pow-pos (field - 1))) (pow-pos 149) l
+      (mid-value binary32 x fit p n)

@@ -1,22 +1,14 @@
 -- The rounded root from the whole root of 47 or 48 digits at an even exponent, and the cases of an `f32`. Assumes nothing.
 use mathlib.Core.Path.{_≡_, refl, sym, ap, _∙_, subst}
-use mathlib.Core.Logic.{_⊎_, inl, inr}
-use Prim.Native.Nat.{ℕ, zero, suc, _+_, _-_, _*_, _/_, _%_, _^_, _≤_, _<_, zero-le, compare, Ordering, Ordering·lt, Ordering·gt}
-use native.Mathlib.Nat.{le-trans, le-of-eq, le-of-lt, le-refl, lt-irrefl, lt-of-lt-of-le, lt-of-le-of-lt, lt-of-not-le, not-le-of-lt, add-comm, mul-comm, mul-assoc, mul-right-comm, mul-one, one-mul, mul-pos, mul-le-mul, mul-le-mul-left, mul-le-mul-right, mul-lt-mul-of-pos-right, mul-div-cancel, zero-lt-suc, zero-mul, eq-zero-or-pos, mod-lt}
+use Prim.Native.Nat.{ℕ, _+_, _-_, _*_, _/_, _^_, _≤_, _<_, compare, Ordering}
+use native.Mathlib.Nat.{le-trans, le-of-eq, lt-of-lt-of-le, lt-of-not-le, not-le-of-lt, mul-comm, mul-assoc, mul-right-comm, mul-one, mul-pos, mul-le-mul, mul-le-mul-left, mul-le-mul-right, mul-lt-mul-of-pos-right, mul-div-cancel, zero-lt-suc}
 use native.Mathlib.Numerals.{add-one}
 use native.Mathlib.Omega.{arith}
-use mathlib.Core.Bool.{Bool, true, false, not, _&&_, _||_, Bool·beq, cond, true≢false, false≢true}
-use lib.IntN.{ℤ, pos, negsuc}
-use lib.Dec.{T, leb, ltb, eqb, lt→ltb, lit<, lit≤, eqb-refl}
-use borrow.Author.Tests.{ne-eqb, eqb-false}
-use lib.Pow.{pow-add, pow-pos, pow-mono, shl-lt, field}
-use lib.Bits.{bitAnd, and-mask, mask-lt}
-use lib.Count.{leadingZeros, leading-top}
-use lib.Ieee.{Float, nan, inf, fin, Format, binary32, prec, low, up, down, size, odd, nearest, units, fits, isNan, ofFields, ofBits, toBits, hid, ones, top, lt, eq, div}
-use lib.Ieee.Fits.{up-pos, down-pos}
-use lib.Ieee.Exact.{HasValue, odd-sign}
-use Rattle.ieee.specs.Root.{root, rootRound, sqrtOf}
-use Rattle.float.proofs.Pack.{size-at}
+use mathlib.Core.Bool.{false}
+use lib.Pow.{pow-add, pow-pos, pow-mono}
+use lib.Ieee.{Float, binary32, size, nearest, units}
+use Rattle.ieee.specs.Root.{root, rootRound}
+use Rattle.ieee.proofs.Digits.{size-at}
 use Rattle.ieee.proofs.Rounding.{compare-lt, compare-gt}
 use Rattle.ieee.proofs.Roots.{IsRoot, root-is, root-unique, root-le, next-square, twice-square}
 
@@ -96,34 +88,6 @@ module _ (num den M K s : ℕ) (D : 0 < den) (e : num * 2 ^ 298 ≡ M * 2 ^ (K +
     where
       high-side : (M s a : ℕ) → a + s < M → a * 4 + s * 2 * 2 + 1 < M * 4
       high-side M s a h = omega arith
-
--- ---- the digits at place 46
-pow-back : (i p : ℕ) → 2 ^ i < 2 ^ p → i < p
-pow-back i p h = lt-of-not-le (λ (g : p ≤ i). lt-irrefl (2 ^ i) (lt-of-lt-of-le h (pow-mono g)))
-
-pub placed46 : (q : ℕ) → 0 < q → q < 2 ^ 24 → (40 ≤ leadingZeros 64 q) × (leadingZeros 64 q ≤ 63) × (2 ^ 46 ≤ q * 2 ^ (leadingZeros 64 q - 17)) × (q * 2 ^ (leadingZeros 64 q - 17) < 2 ^ 47)
-placed46 q P h =
-    let t = leading-top 64 q P (lt-of-lt-of-le h (lit≤ tt)) in
-    let j = t .0 in
-    let z = leadingZeros 64 q in
-    let J : j < 24 = pow-back j 24 (lt-of-le-of-lt (t .2) h) in (
-      some z j (t .1) J,
-      most z j (t .1),
-      le-trans (le-of-eq (sym (sym (pow-add 2 j (z - 17)) ∙ ap (λ (n : ℕ). 2 ^ n) (place z j (t .1) J)))) (mul-le-mul-right (2 ^ (z - 17)) (t .2)),
-      subst (λ (n : ℕ). q * 2 ^ (z - 17) < 2 ^ n) (place′ z j (t .1) J) (shl-lt (suc j) (z - 17) (t .3)),
-    )
-  where
-    place : (z j : ℕ) → z + suc j ≡ 64 → j < 24 → j + (z - 17) ≡ 46
-    place z j e l = omega arith
-
-    place′ : (z j : ℕ) → z + suc j ≡ 64 → j < 24 → suc j + (z - 17) ≡ 47
-    place′ z j e l = omega arith
-
-    some : (z j : ℕ) → z + suc j ≡ 64 → j < 24 → 40 ≤ z
-    some z j e l = omega arith
-
-    most : (z j : ℕ) → z + suc j ≡ 64 → z ≤ 63
-    most z j e = omega arith
 
 -- one place more for an odd exponent
 pub evened : (q z b : ℕ) → b < 2 → 2 ^ 46 ≤ q * 2 ^ z → q * 2 ^ z < 2 ^ 47 → (2 ^ 46 ≤ q * 2 ^ (z + b)) × (q * 2 ^ (z + b) < 2 ^ 48)

@@ -1,20 +1,20 @@
 -- `whole` outside the small range and at either sign, and the absolute value, for both formats. Zero is `fin false 0 (pos 0)`, as the code's tests have it. Assumes nothing.
 use mathlib.Core.Path.{_≡_, refl, sym, ap, _∙_, subst}
-use mathlib.Core.Logic.{_⊎_, inl, inr}
-use Prim.Native.Nat.{ℕ, zero, suc, _+_, _-_, _*_, _%_, _^_, _≤_, _<_}
+use Prim.Native.Nat.{ℕ, zero, suc, _-_, _*_, _^_, _≤_, _<_}
 use native.Mathlib.Nat.{le-trans, le-of-eq, lt-irrefl, lt-of-le-of-lt, mul-one, one-mul, zero-mul, mul-pos, mul-le-mul-left, zero-lt-suc}
 use native.Mathlib.Omega.{arith}
-use mathlib.Core.Bool.{Bool, true, false, not, _&&_, cond, true≢false, false≢true}
+use mathlib.Core.Bool.{Bool, true, false, not, cond, true≢false, false≢true}
 use lib.IntN.{ℤ, pos, negsuc}
-use lib.Dec.{T, leb, ltb, eqb, eqb→eq, ltb→lt, lt→ltb}
+use lib.Dec.{T, ltb, eqb, eqb→eq, lt→ltb}
 use borrow.Author.Tests.{ltb-false}
 use lib.Pow.{pow-pos, pow-mono}
-use lib.Ieee.{Float, nan, inf, fin, Format, prec, emax, low, up, down, size, odd, neg, lt, eq, level, fits}
-use lib.Ieee.Fits.{and-l, and-r, up-pos, neg-fits}
+use lib.Ieee.{Float, nan, inf, fin, Format, prec, up, down, size, odd, neg, lt, eq, level, fits}
+use lib.Ieee.Fits.{and-l, up-pos, neg-fits}
 use Rattle.laws.proofs.If.{if-true, if-false}
 use Rattle.ieee.specs.Sign.{signOf, absOf}
 use Rattle.ieee.specs.Whole.{whole, cut, raised, floorOf}
 use Rattle.ieee.proofs.Value.{zero-exp}
+use Rattle.ieee.proofs.Units.{fits-parts}
 use Rattle.float.proofs.Wholes.{H, H-twice}
 
 abbrev plus-zero : Float
@@ -48,14 +48,8 @@ neg-neg (fin false m e) = refl
 
 -- ---- from H on every value is whole: one with a fraction would need more than `prec` digits
 digits-lt : (f : Format) (s : Bool) (m : ℕ) (e : ℤ) → T (fits f (fin s m e)) → m < 2 ^ prec f
-unfolding fits
 digits-lt f s zero e t = pow-pos (prec f)
-digits-lt f s (suc m) e t =
-    let A = eqb (suc m % 2) 1 in
-    let B = ltb (suc m) (2 ^ prec f) in
-    let C = leb (down e) (2 ^ low f) in
-    let D = ltb (suc m * up e) (2 ^ suc (emax f) * down e) in
-    ltb→lt (suc m) (2 ^ prec f) (and-r A B (and-l (A && B) C (and-l (A && B && C) D t)))
+digits-lt f s (suc m) e t = fits-parts f s m e t .0
 
 no-fraction : (f : Format) (m k : ℕ) → H f * 2 ^ suc k ≤ m → m < 2 ^ prec f → ⊥
 no-fraction f m k h l =

@@ -1,25 +1,23 @@
 -- The steps of `whole` by value, for both formats: x is A / C, above zero and below H = 2 ^ (prec - 1). Assumes nothing.
 use mathlib.Core.Path.{_≡_, refl, sym, ap, _∙_, subst}
-use mathlib.Core.Logic.{_⊎_, inl, inr}
-use Prim.Native.Nat.{ℕ, zero, suc, _+_, _-_, _*_, _/_, _%_, _^_, _≤_, _<_, compare, Ordering, Ordering·lt, Ordering·eq, Ordering·gt}
-use native.Mathlib.Nat.{div-one, eq-or-lt-of-le, le-trans, le-of-lt, le-of-eq, lt-of-lt-of-le, lt-of-le-of-lt, add-comm, add-mul, mul-comm, mul-one, one-mul, mul-assoc, mul-right-comm, mul-pos, mul-le-mul-right, mul-lt-mul-of-pos-right, zero-lt-suc, pow-suc, add-mul-div-right, add-mul-mod-self-right, le-add-left, div-lt-iff-lt-mul, le-div-iff-mul-le, zero-mul}
+use mathlib.Core.Logic.{inl, inr}
+use Prim.Native.Nat.{ℕ, zero, suc, _+_, _-_, _*_, _/_, _%_, _^_, _≤_, _<_}
+use native.Mathlib.Nat.{div-one, eq-or-lt-of-le, le-trans, le-of-eq, lt-of-le-of-lt, add-mul, mul-comm, mul-one, one-mul, mul-assoc, mul-right-comm, mul-pos, mul-le-mul-right, mul-lt-mul-of-pos-right, zero-lt-suc, le-add-left, div-lt-iff-lt-mul, le-div-iff-mul-le, zero-mul}
 use native.Mathlib.Omega.{arith}
-use mathlib.Core.Bool.{Bool, true, false, not, cond, true≢false, false≢true}
+use mathlib.Core.Bool.{true, false, false≢true}
 use lib.IntN.{ℤ, pos, negsuc}
-use lib.Dec.{T, ltb, leb, lit≤, lit<}
+use lib.Dec.{T, ltb, lit≤, lit<}
 use borrow.Author.Tests.{ltb-true, ltb-false, lt-ltb}
-use lib.Pow.{pow-add, pow-pos, pow-mono, pow-lt}
-use lib.Ieee.{Float, nan, inf, fin, Format, binary32, binary64, prec, emax, low, up, down, size, round, sum, add, sub, neg, lt, le, fits, isNan, nearest}
-use lib.Ieee.Fits.{down-pos, up-pos, reach, add-fits, sub-fits, round-fits}
+use lib.Pow.{pow-add, pow-pos, pow-lt}
+use lib.Ieee.{Float, nan, inf, fin, Format, binary32, binary64, prec, low, up, down, size, round, sum, add, sub, lt, fits}
+use lib.Ieee.Fits.{down-pos, add-fits, sub-fits}
 use lib.Ieee.Exact.{HasValue}
 use lib.Ieee.Nearest.{closest, closest-same}
 use lib.Ieee.Scale.{grid, overflow, round-val}
-use lib.Ieee.Back.{round-whole}
-use Rattle.ieee.specs.Sign.{signOf}
-use Rattle.ieee.specs.Whole.{whole, exactly, cut, raised, halfUp, floorOf}
+use Rattle.ieee.specs.Whole.{whole, exactly, cut, raised, halfUp}
 use Rattle.ieee.proofs.Value.{value-unique, revalue, add-value, lt-value}
 use Rattle.ieee.proofs.Exactly.{exactly-fits, exactly-value}
-use Rattle.ieee.proofs.Sums.{neg-value, add-exact, sub-exact}
+use Rattle.ieee.proofs.Sums.{add-exact, sub-exact}
 use Rattle.ieee.proofs.Digits.{size-at}
 use Rattle.float.specs.Small.{Small}
 use Rattle.float.proofs.Quotients.{closest-one, closest-add, raised-one, half-one, closest-below, cut-less, cut-same, raised-more, raised-same, half-up, half-same}

@@ -8,7 +8,7 @@ use lib.IntN.{ℤ, pos, negsuc}
 use lib.Dec.{T, leb, leb→le, nleb→lt}
 use lib.Pow.{pow-add, pow-pos, shl-lt, pow-mono}
 use lib.Count.{trailingZeros}
-use lib.Ieee.{Float, fin, Format, prec, emax, low, minus, size, odd, round, neg, fits}
+use lib.Ieee.{Float, fin, Format, prec, emax, low, minus, size, odd, round, fits}
 use lib.Ieee.Digits.{size-lt}
 use lib.Ieee.Fits.{round-fits, odd-fits, reach}
 use lib.Ieee.Exact.{HasValue, round-exact, odd-sign}

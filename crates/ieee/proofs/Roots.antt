@@ -1,17 +1,15 @@
 -- The whole root of a number, and the rounded root of a fraction. Assumes nothing.
-use mathlib.Core.Path.{_≡_, refl, sym, ap, _∙_, subst}
-use mathlib.Core.Logic.{_⊎_, inl, inr}
-use Prim.Native.Nat.{ℕ, zero, suc, _+_, _-_, _*_, _/_, _%_, _^_, _≤_, _<_, zero-le, compare, Ordering, Ordering·lt, Ordering·gt}
-use native.Mathlib.Nat.{le-trans, le-of-eq, le-of-lt, le-refl, le-antisymm, le-of-suc-le-suc, lt-irrefl, lt-of-lt-of-le, lt-of-le-of-lt, lt-of-not-le, not-le-of-lt, mul-comm, mul-assoc, mul-left-comm, mul-right-comm, mul-mul-mul-comm, mul-one, one-mul, mul-pos, mul-le-mul, mul-le-mul-left, mul-le-mul-right, mul-lt-mul-of-pos-right, mul-add, add-mul, div-lt-iff-lt-mul, mul-div-cancel, zero-lt-suc, pow-suc, pow-succ', add-zero, zero-mul, two-pow-succ}
-use native.Mathlib.Numerals.{add-one}
+use mathlib.Core.Path.{_≡_, sym, ap, _∙_, subst}
+use Prim.Native.Nat.{ℕ, zero, suc, _+_, _-_, _*_, _/_, _%_, _^_, _≤_, _<_, zero-le}
+use native.Mathlib.Nat.{le-trans, le-of-eq, le-refl, le-antisymm, le-of-suc-le-suc, lt-of-lt-of-le, lt-of-not-le, not-le-of-lt, mul-mul-mul-comm, mul-one, one-mul, mul-le-mul, mul-add, add-mul, div-lt-iff-lt-mul, zero-lt-suc, pow-suc, two-pow-succ}
 use native.Mathlib.Omega.{arith}
 use mathlib.Core.Bool.{Bool, true, false, not, cond}
 use lib.Dec.{T, leb, leb→le, nleb→lt}
-use lib.Pow.{pow-add, pow-pos, pow-mono}
-use lib.Ieee.{Float, fin, inf, nan, Format, binary32, prec, low, up, down, size, nearest, units}
+use lib.Pow.{pow-pos}
+use lib.Ieee.{low, size}
 use lib.Ieee.Digits.{size-lt}
 use Rattle.ieee.proofs.Rounding.{unit-is}
-use Rattle.ieee.specs.Root.{rootIn, root, rootRound, sqrtOf}
+use Rattle.ieee.specs.Root.{rootIn, root}
 
 -- r is the whole root of n
 abbrev pub IsRoot : ℕ → ℕ → Type 0

@@ -2,7 +2,7 @@
 use mathlib.Core.Path.{_≡_, refl, sym, ap, _∙_, subst}
 use mathlib.Core.Logic.{inl, inr}
 use Prim.Native.Nat.{ℕ, zero, suc, _+_, _-_, _*_, _/_, _%_, _^_, _≤_, _<_}
-use native.Mathlib.Nat.{le-trans, le-of-eq, le-refl, lt-of-lt-of-le, lt-of-le-of-lt, lt-of-not-le, not-le-of-lt, eq-or-lt-of-le, eq-zero-or-pos, le-of-suc-le-suc, mul-comm, mul-assoc, mul-one, zero-mul, mul-le-mul-right, mul-lt-mul-of-pos-right, mul-mod-left, eq-of-mul-eq-mul-right, mul-div-cancel}
+use native.Mathlib.Nat.{le-trans, le-of-eq, le-refl, lt-of-lt-of-le, lt-of-le-of-lt, lt-of-not-le, not-le-of-lt, eq-or-lt-of-le, le-of-suc-le-suc, mul-comm, mul-assoc, mul-one, zero-mul, mul-le-mul-right, mul-lt-mul-of-pos-right, mul-mod-left, eq-of-mul-eq-mul-right, mul-div-cancel}
 use native.Mathlib.Omega.{arith}
 use mathlib.Core.Bool.{Bool, true, false, _&&_, cond}
 use lib.IntN.{ℤ, pos, negsuc}
@@ -10,18 +10,19 @@ use lib.Dec.{T, leb, ltb, eqb, ltb→lt, lt→ltb, leb→le}
 use lib.Arith.{le→nltb}
 use lib.Pow.{pow-add, pow-pos, pow-mono, pow-lt}
 use lib.Ieee.{Float, inf, fin, Format, prec, emax, low, up, down, size, odd, units, fits, hid, ones, top, toBits}
-use lib.Ieee.Digits.{size-lt, size-le, size-reaches, back}
+use lib.Ieee.Digits.{size-lt, size-reaches, back}
 use lib.Ieee.Fits.{two, two-le-pos, odd-fits, down-pos, and-l, and-r}
 use lib.Ieee.Exact.{HasValue, units-val}
 use lib.Ieee.Bits.{is-true, is-false}
 use lib.Ieee.Scale.{overflow}
 use Rattle.ieee.specs.Nearest.{IsValue}
+use Rattle.ieee.proofs.Digits.{size-at}
 use Rattle.ieee.proofs.Halves.{Short, pow-even}
 
 -- ---- a value has at most prec digits, and zeros after them
-parts : (f : Format) (s : Bool) (m : ℕ) (e : ℤ) → T (fits f (fin s (suc m) e)) → (suc m < 2 ^ prec f) × (down e ≤ 2 ^ low f)
+pub fits-parts : (f : Format) (s : Bool) (m : ℕ) (e : ℤ) → T (fits f (fin s (suc m) e)) → (suc m < 2 ^ prec f) × (down e ≤ 2 ^ low f)
 unfolding fits
-parts f s m e t =
+fits-parts f s m e t =
     let a : Bool = eqb (suc m % 2) 1 in
     let b : Bool = ltb (suc m) (2 ^ prec f) in
     let c : Bool = leb (down e) (2 ^ low f) in
@@ -53,7 +54,7 @@ short f s b x v = go x (v .held) (v .is)
       is = eq-of-mul-eq-mul-right (down e) (down-pos e) b 0 (sym (v .1) ∙ ap (λ (x : ℕ). x * 2 ^ low f) (zero-mul (up e)) ∙ zero-mul (2 ^ low f) ∙ sym (zero-mul (down e)));
     }
     go (fin t (suc m) e) h v =
-        let d = parts f t m e h in
+        let d = fits-parts f t m e h in
         let j = in-units (suc m) b (low f) e (d .1) (v .1) in
         record { n = suc m; j = j .0; small = d .0; is = j .1 }
 
@@ -88,19 +89,7 @@ drops p x P = (
     inside z p P i = omega arith
 
 drops-is : (p k x : ℕ) → 0 < p → Drops p k x → size x - p ≡ k
-drops-is p k x P d = elim (eq-zero-or-pos k) [ inl z ↦ none (size x) p k z most | inr i ↦ some (size x) p k P most (least i) ]
-  where
-    most : size x ≤ p + k
-    most = size-le x (p + k) (lt-of-lt-of-le (d .0) (le-of-eq (sym (pow-add 2 p k))))
-
-    least : 0 < k → p - 1 + k < size x
-    least i = lt-of-not-le (λ (l : size x ≤ p - 1 + k). not-le-of-lt (lt-of-lt-of-le (size-lt x) (pow-mono l)) (le-trans (le-of-eq (pow-add 2 (p - 1) k)) (d .1 i)))
-
-    none : (z p k : ℕ) → k ≡ 0 → z ≤ p + k → z - p ≡ k
-    none z p k e h = omega arith
-
-    some : (z p k : ℕ) → 0 < p → z ≤ p + k → p - 1 + k < z → z - p ≡ k
-    some z p k P h g = omega arith
+drops-is p k x P d = size-at p x k P (lt-of-lt-of-le (d .0) (le-of-eq (sym (pow-add 2 p k)))) (λ i. le-trans (le-of-eq (pow-add 2 (p - 1) k)) (d .1 i))
 
 -- ---- the last bit of the pattern of q * 2 ^ k units is 0 where q is even
 pub toBits-value : (f : Format) (x : Float) (s : Bool) (a : ℕ) → HasValue x s a (2 ^ low f) → toBits f x ≡ cond s (top f) 0 + (size a - prec f) * hid f + a / 2 ^ (size a - prec f)

@@ -1,16 +1,15 @@
 -- A float by its exact value. `HasValue x s a c` says that x is finite with the sign s and is a / c in size.
 -- One value is written in one way (`value-unique`). What an operation gives, from any fractions that its operands equal (`mul-value`, `div-value`, `add-value`). Assumes nothing.
 use mathlib.Core.Path.{_≡_, refl, sym, ap, _∙_, subst}
-use mathlib.Core.Logic.{_⊎_, inl, inr}
-use Prim.Native.Nat.{ℕ, zero, suc, _+_, _-_, _*_, _/_, _%_, _^_, _≤_, _<_}
-use native.Mathlib.Nat.{le-of-lt, mul-comm, mul-assoc, mul-left-comm, mul-right-comm, mul-mul-mul-comm, mul-one, one-mul, zero-mul, mul-pos, mul-sub, add-mul, lt-irrefl, zero-lt-suc, pow-succ', pow-suc, eq-of-mul-eq-mul-right, add-suc, add-zero, mul-lt-mul-of-pos-right, lt-of-mul-lt-mul-right}
+use Prim.Native.Nat.{ℕ, zero, suc, _+_, _-_, _*_, _%_, _^_, _<_}
+use native.Mathlib.Nat.{mul-comm, mul-assoc, mul-left-comm, mul-right-comm, mul-mul-mul-comm, mul-one, one-mul, zero-mul, mul-pos, mul-sub, add-mul, lt-irrefl, zero-lt-suc, pow-succ', pow-suc, eq-of-mul-eq-mul-right, add-suc, mul-lt-mul-of-pos-right, lt-of-mul-lt-mul-right}
 use native.Mathlib.Omega.{arith}
-use mathlib.Core.Bool.{Bool, true, false, not, _&&_, Bool·beq, cond}
+use mathlib.Core.Bool.{Bool, true, false, _&&_, Bool·beq, cond}
 use lib.IntN.{ℤ, pos, negsuc}
-use lib.Dec.{T, leb, ltb, eqb, eqb→eq, ltb→lt, lt→ltb, leb→le, nleb→lt, le→leb}
+use lib.Dec.{T, leb, ltb, eqb, eqb→eq, ltb→lt, lt→ltb}
 use lib.Pow.{pow-add, pow-pos}
-use lib.Ieee.{Float, nan, inf, fin, Format, prec, emax, low, unlike, up, down, minus, round, sum, add, sub, neg, mul, div, fits, lt, below}
-use lib.Ieee.Fits.{up-pos, down-pos, and-l, and-r}
+use lib.Ieee.{Float, nan, inf, fin, Format, prec, emax, low, unlike, up, down, round, sum, add, mul, div, fits, lt, below}
+use lib.Ieee.Fits.{up-pos, down-pos, and-l}
 use lib.Ieee.Exact.{HasValue}
 use lib.Ieee.Scale.{round-same}
 

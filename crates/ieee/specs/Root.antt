@@ -1,8 +1,7 @@
 -- The square root, correctly rounded: the nearest value of the format to √(num / den), by squares of whole numbers.
 use Prim.Native.Nat.{ℕ, zero, suc, _+_, _-_, _*_, _/_, _^_, compare}
-use mathlib.Core.Bool.{Bool, true, false, cond}
+use mathlib.Core.Bool.{true, false, cond}
 use lib.Dec.{leb}
-use lib.IntN.{ℤ}
 use lib.Ieee.{Float, nan, inf, fin, Format, binary32, prec, low, up, down, size, nearest, units}
 
 -- the largest r with r * r ≤ n, by two binary digits of n at a time; d is how many such pairs there are at most

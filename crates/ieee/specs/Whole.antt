@@ -1,6 +1,6 @@
 -- Values written without rounding, and the whole numbers near a value: IEEE 754-2019 §5.9 (roundToIntegral).
 use Prim.Native.Nat.{ℕ, suc, _+_, _-_, _*_, _/_, _^_}
-use mathlib.Core.Bool.{Bool, true, false, cond}
+use mathlib.Core.Bool.{Bool, cond}
 use lib.IntN.{pos, negsuc}
 use lib.Ieee.{Float, nan, inf, fin, Format, size, odd, sub}
 use Rattle.ieee.specs.Sign.{signOf}

@@ -1,7 +1,7 @@
 -- Use for a loop that at turn i writes the `sample` of `step i s` at index i and puts its `state` for s: every voice. `Filled` is the loop's invariant;
 -- `filled-none` starts it, `filled-more` is a turn, `filled-frames` and `filled-state` end it. Proved for any state and any step. Assumes nothing.
 use Prim.Native.Nat.{ℕ, zero, suc, _+_, _≤_, _<_}
-use mathlib.Core.Path.{_≡_, refl, sym, ap, _∙_, subst}
+use mathlib.Core.Path.{_≡_, refl, sym, ap, _∙_}
 use mathlib.Core.List.{List, [], _∷_, _++_, append-nil, append-assoc}
 use native.Mathlib.Omega.{arith}
 use native.Mathlib.Numerals.{add-one}

@@ -1,6 +1,6 @@
 -- `word::wrapping_mul` meets its contract. Assumes nothing.
 use borrow.Author.Needs.{needs}
-use mathlib.Core.Path.{_≡_, _∙_, ap}
+use mathlib.Core.Path.{_∙_, ap}
 use Prim.Native.Nat.{ℕ, _+_, _*_, _%_, _^_, _<_}
 use native.Mathlib.Nat.{mul-lt-mul-of-pos-left, lt-of-le-of-lt, mul-le-mul-right, le-of-lt}
 use lib.Pow.{pow-pos, shr-lt}

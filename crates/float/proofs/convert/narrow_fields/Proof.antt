@@ -7,7 +7,8 @@ use lib.Dec.{lit<}
 use lib.Bits.{mask-lt}
 use lib.Ieee.{binary64, toBits}
 use denote.Floats.{passes}
-use Rattle.float.proofs.Narrowing.{case-top, case-low, case-mid, case-zero, inf-is, theSign, theDigits}
+use Rattle.float.proofs.Pack.{inf-bits}
+use Rattle.float.proofs.Narrowing.{case-top, case-low, case-mid, case-zero, sign, digits}
 use Rattle.float.proofs.convert.narrow_fields.Statement.{statement}
 use Rattle.float.proofs.convert.narrow_fields.Tie as tie
 
@@ -23,7 +24,7 @@ signed-f32-requires c κs = search needs
 returns : tie.Need-returns
 returns c =
     let d = c .before .before in
-    c .signed-f32 .ensures ∙ inf-is _ ∙ case-top (d .args .x) (passes _ (d .good .0 .1)) (d .pre) (c .before .if1 .taken)
+    c .signed-f32 .ensures ∙ inf-bits _ ∙ case-top (d .args .x) (passes _ (d .good .0 .1)) (d .pre) (c .before .if1 .taken)
 
 signed-f32-requires-2 : tie.Need-signed-f32-requires-2
 signed-f32-requires-2 c κs = search needs
@@ -32,7 +33,7 @@ returns-2 : tie.Need-returns-2
 returns-2 c =
     let d = c .before .before .before .before in
     let fit = passes _ (d .good .0 .1) in
-    c .signed-f322 .ensures ∙ case-zero (theSign (d .args .x) fit) (theDigits (d .args .x) fit) (c .before .if3 .taken) ∙ case-low (d .args .x) fit (c .before .before .if2 .taken)
+    c .signed-f322 .ensures ∙ case-zero (sign (d .args .x) fit) (digits (d .args .x) fit) (c .before .if3 .taken) ∙ case-low (d .args .x) fit (c .before .before .if2 .taken)
 
 narrow-digits-requires : tie.Need-narrow-digits-requires
 narrow-digits-requires c κs =

@@ -1,20 +1,23 @@
 -- `float::root::root_digits` meets its contract. Assumes nothing.
 use borrow.Author.Needs.{needs}
-use mathlib.Core.Path.{_≡_, sym, ap, _∙_, subst}
+use mathlib.Core.Path.{_≡_, sym, _∙_, subst}
 use Prim.Native.Nat.{ℕ, _+_, _-_, _*_, _/_, _%_, _^_, _≤_, _<_}
 use native.Mathlib.Nat.{lt-of-lt-of-le, mod-eq-of-lt, mod-lt, zero-lt-suc, le-trans, le-of-lt, lt-of-not-le, not-le-of-lt, mul-le-mul, le-add-right}
 use native.Mathlib.Omega.{arith}
-use lib.Dec.{lit<, lit≤}
+use lib.Dec.{lit≤}
 use lib.Pow.{pow-pos}
 use lib.Count.{leadingZeros}
-use lib.Ieee.{binary32, units}
 use Rattle.ieee.proofs.Roots.{IsRoot, root-le}
-use Rattle.float.proofs.RootLaw.{placed46, evened, exponents, root-down, root-up}
+use Rattle.float.proofs.Leading.{Placed, placed}
+use Rattle.float.proofs.RootLaw.{evened, exponents, root-down, root-up}
 use Rattle.float.proofs.root.root_digits.Statement.{statement}
 use Rattle.float.proofs.root.root_digits.Tie as tie
 
 abbrev shift : ℕ → ℕ
 shift q = leadingZeros 64 q - 17
+
+at46 : (q : ℕ) → 0 < q → q < 2 ^ 24 → Placed 24 17 q
+at46 q P h = placed 24 17 q (lit≤ tt) P h
 
 abbrev expo : ℕ → ℕ → ℕ
 expo q k = k + 149 - shift q
@@ -23,7 +26,7 @@ abbrev digits : ℕ → ℕ → ℕ
 digits q k = q * 2 ^ (shift q + expo q k % 2)
 
 bounds : (q k : ℕ) → 0 < q → q < 2 ^ 24 → (2 ^ 46 ≤ digits q k) × (digits q k < 2 ^ 48)
-bounds q k P h = let z = placed46 q P h in evened q (shift q) (expo q k % 2) (mod-lt (expo q k) (zero-lt-suc 1)) (z .2) (z .3)
+bounds q k P h = let z = at46 q P h in evened q (shift q) (expo q k % 2) (mod-lt (expo q k) (zero-lt-suc 1)) (z .low) (z .high)
 
 digits-are : (q k : ℕ) → 0 < q → q < 2 ^ 24 → digits q k % 2 ^ 64 ≡ digits q k
 digits-are q k P h = mod-eq-of-lt (lt-of-lt-of-le (bounds q k P h .1) (lit≤ tt))
@@ -32,7 +35,7 @@ meet : (k z : ℕ) → z ≤ k + 149 → k + 298 ≡ z + (k + 149 - z) % 2 + ((k
 meet k z h = omega arith
 
 within : (q k : ℕ) → 0 < q → q < 2 ^ 24 → shift q ≤ k + 149
-within q k P h = let z = placed46 q P h .1 in omega arith
+within q k P h = let z = at46 q P h .most in omega arith
 
 -- the root has 24 digits
 root-lt : (s M p : ℕ) → s * s ≤ M → M < p * p → s < p
@@ -55,10 +58,10 @@ module _ (c : tie.After-isqrt48) where
       go k z h = omega arith
 
 sub-z : tie.Need-sub-z
-sub-z c = let h = placed46 (c .args .q) (c .pre .0) (c .pre .1) .0 in omega arith
+sub-z c = let h = at46 (c .args .q) (c .pre .0) (c .pre .1) .least in omega arith
 
 cast-z : tie.Need-cast-z
-cast-z c = let h = placed46 (c .args .q) (c .pre .0) (c .pre .1) .1 in record { fits = omega arith }
+cast-z c = let h = at46 (c .args .q) (c .pre .0) (c .pre .1) .most in record { fits = omega arith }
 
 add-e : tie.Need-add-e
 add-e c = search needs
@@ -67,10 +70,10 @@ sub-e : tie.Need-sub-e
 sub-e c = within (c .args .q) (c .args .k) (c .pre .0) (c .pre .1)
 
 add-m : tie.Need-add-m
-add-m c = let h = placed46 (c .args .q) (c .pre .0) (c .pre .1) .1 in record { fits = omega arith }
+add-m c = let h = at46 (c .args .q) (c .pre .0) (c .pre .1) .most in record { fits = omega arith }
 
 shl-m : tie.Need-shl-m
-shl-m c = let h = placed46 (c .args .q) (c .pre .0) (c .pre .1) .1 in omega arith
+shl-m c = let h = at46 (c .args .q) (c .pre .0) (c .pre .1) .most in omega arith
 
 isqrt48-requires : tie.Need-isqrt48-requires
 isqrt48-requires c κs = subst (λ (n : ℕ). n < 2 ^ 48) (sym (digits-are (c .args .q) (c .args .k) (c .pre .0) (c .pre .1))) (bounds (c .args .q) (c .args .k) (c .pre .0) (c .pre .1) .1)
