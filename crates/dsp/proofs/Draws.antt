@@ -1,18 +1,19 @@
 -- What `unit` and `bi` compute is exact at every step; the value of a `bi`, in the words of 01, and that it is never 1. Assumes nothing.
 use mathlib.Core.Path.{_≡_, refl, sym, _∙_, subst}
-use Prim.Native.Nat.{ℕ, _-_, _*_, _^_, _≤_, _<_}
-use native.Mathlib.Nat.{zero-lt-suc, le-of-lt}
+use Prim.Native.Nat.{ℕ, _+_, _-_, _*_, _^_, _≤_, _<_}
+use native.Mathlib.Nat.{zero-lt-suc, lt-of-lt-of-le, le-add-left, mul-pos, le-of-lt}
 use native.Mathlib.Omega.{arith}
 use mathlib.Core.Bool.{Bool, true, false, not, cond}
 use lib.IntN.{pos}
-use lib.Dec.{T, ltb, ltb→lt, nltb→le, lit≤}
+use lib.Dec.{T, ltb, ltb→lt, lt→ltb, nltb→le, lit≤}
 use borrow.Author.Tests.{lt-ltb, le-ltb}
 use lib.Pow.{pow-pos}
-use lib.Ieee.{Float, fin, binary32, round, sum, sub, neg, mul, div, ofInt, ofBits, lt}
+use lib.Ieee.{Float, fin, binary32, round, sum, sub, neg, mul, div, ofInt, ofBits, lt, below, up, down}
+use lib.Ieee.Fits.{down-pos}
 use lib.Ieee.Exact.{HasValue}
 use lib.Ieee.Back.{round-whole}
 use Rattle.ieee.specs.Whole.{exactly}
-use Rattle.ieee.proofs.Value.{mul-value, div-value, add-value}
+use Rattle.ieee.proofs.Value.{mul-value, div-value, add-value, lt-value}
 use Rattle.ieee.proofs.Exactly.{exactly-value, round-value, round-exactly}
 use Rattle.dsp.specs.Draw.{unitOf, biOf}
 
@@ -91,3 +92,21 @@ bi-low k h = subst (λ (b : Bool). HasValue (cond b (exactly true (2 ^ 23 - k) 2
 pub bi-high : (k : ℕ) → 2 ^ 23 ≤ k → HasValue (biOf k) false (k - 2 ^ 23) (2 ^ 23)
 unfolding biOf
 bi-high k h = subst (λ (b : Bool). HasValue (cond b (exactly true (2 ^ 23 - k) 23) (exactly false (k - 2 ^ 23) 23)) false (k - 2 ^ 23) (2 ^ 23)) (sym (le-ltb k (2 ^ 23) h)) (exactly-value false (k - 2 ^ 23) 23)
+
+-- "so never 1"
+below-one : (x : Float) (a c : ℕ) → HasValue x true a c → T (lt x (fin false 1 (pos 0)))
+unfolding lt
+below-one (fin s m e) a c v =
+    subst (λ (s : Bool). T (below s (m * up e * 1) false (1 * 1 * down e))) (sym (v .0)) (lt→ltb 0 (m * up e * 1 + 1 * 1 * down e) (lt-of-lt-of-le (mul-pos (zero-lt-suc 0) (down-pos e)) (le-add-left (1 * 1 * down e) (m * up e * 1))))
+
+pub bi-below-one : (k : ℕ) → k < 2 ^ 24 → T (lt (biOf k) (fin false 1 (pos 0)))
+bi-below-one k h = go (ltb k (2 ^ 23)) (ltb→lt k (2 ^ 23)) (nltb→le k (2 ^ 23))
+  where
+    less : (k : ℕ) → k < 2 ^ 24 → (k - 2 ^ 23) * 1 < 1 * 2 ^ 23
+    less k h = omega arith
+
+    go : (b : Bool) → (T b → k < 2 ^ 23) → (T (not b) → 2 ^ 23 ≤ k) → T (lt (biOf k) (fin false 1 (pos 0)))
+    go true p q = below-one (biOf k) (2 ^ 23 - k) (2 ^ 23) (bi-low k (p tt))
+    go false p q =
+        subst T (sym (lt-value (biOf k) (fin false 1 (pos 0)) (k - 2 ^ 23) (2 ^ 23) 1 1 (pow-pos 23) (zero-lt-suc 0) (bi-high k (q tt)) (refl, refl)))
+        (lt→ltb ((k - 2 ^ 23) * 1) (1 * 2 ^ 23) (less k h))

@@ -6,7 +6,8 @@ mod cast; // cast.rt: floats to integers
 mod convert; // convert.rt: f64 to f32 and back
 mod order; // order.rt: max, min, clamp, abs
 mod root; // root.rt: the square root
-mod whole; // whole.rt: floor, trunc, round, fract
+mod whole_f32; // whole_f32.rt: floor, trunc, round and fract of an f32
+mod whole_f64; // whole_f64.rt: floor, trunc and round of an f64
 
 pub use bits::f32_from_bits;
 pub use cast::f32_to_usize;
@@ -18,10 +19,10 @@ pub use order::clamp_f32;
 pub use order::max_f32;
 pub use order::min_f32;
 pub use root::sqrt_f32;
-pub use whole::floor_f32;
-pub use whole::floor_f64;
-pub use whole::fract_f32;
-pub use whole::round_f32;
-pub use whole::round_f64;
-pub use whole::trunc_f32;
-pub use whole::trunc_f64;
+pub use whole_f32::floor_f32;
+pub use whole_f32::fract_f32;
+pub use whole_f32::round_f32;
+pub use whole_f32::trunc_f32;
+pub use whole_f64::floor_f64;
+pub use whole_f64::round_f64;
+pub use whole_f64::trunc_f64;

@@ -1,0 +1,25 @@
+-- `float::whole_f32::half_up_f32` meets its contract: `half-taken` and `half-left`. Assumes nothing.
+use borrow.Author.Needs.{needs}
+use denote.Floats.{passes}
+use lib.Ieee.{binary32, ofBits}
+use Rattle.float.proofs.Wholes.{parts, half-taken, half-left}
+use Rattle.float.proofs.whole_f32.half_up_f32.Statement.{statement}
+use Rattle.float.proofs.whole_f32.half_up_f32.Tie as tie
+
+nearest-f32-requires : tie.Need-nearest-f32-requires
+nearest-f32-requires c κs = search needs
+
+returns : tie.Need-returns
+unfolding ofBits
+returns c =
+    let d = c .before .before in
+    half-taken (parts binary32 (d .args .a) (d .pre)) (passes _ (d .good .0 .1)) (c .before .nearest-f32 .result) (c .before .nearest-f32 .ensures) (c .if1 .taken)
+
+returns-2 : tie.Need-returns-2
+unfolding ofBits
+returns-2 c =
+    let d = c .before .before in
+    half-left (parts binary32 (d .args .a) (d .pre)) (passes _ (d .good .0 .1)) (c .before .nearest-f32 .result) (c .before .nearest-f32 .ensures) (c .if1 .left)
+
+pub half-up-f32-spec : {M : Type 1} → statement M
+half-up-f32-spec = tie.close (tie.spec nearest-f32-requires returns returns-2)

@@ -1,0 +1,94 @@
+// `whole_f32` at f64, with 2^52 for 2^23.
+ghost use mathlib.Core.Path.{_≡_};
+ghost use lib.Ieee.{binary64};
+ghost use lib.Ieee.Nearest.{closest};
+ghost use Rattle.ieee.specs.Whole.{whole, cut, raised, halfUp, truncOf, roundOf, floorOf};
+ghost use Rattle.float.specs.Small.{Small};
+
+fn nearest_f64(a: f64) -> f64
+    requires { ⌜ Small binary64 a ⌝ }
+    ensures { λ r. ⌜ r ≡ whole closest a ⌝ }
+{
+    (a + 4503599627370496.0) - 4503599627370496.0
+}
+
+fn cut_f64(a: f64) -> f64
+    requires { ⌜ Small binary64 a ⌝ }
+    ensures { λ r. ⌜ r ≡ whole cut a ⌝ }
+{
+    let n = nearest_f64(a);
+    if a < n { n - 1.0 } else { n }
+}
+
+fn raised_f64(a: f64) -> f64
+    requires { ⌜ Small binary64 a ⌝ }
+    ensures { λ r. ⌜ r ≡ whole raised a ⌝ }
+{
+    let n = nearest_f64(a);
+    if n < a { n + 1.0 } else { n }
+}
+
+fn half_up_f64(a: f64) -> f64
+    requires { ⌜ Small binary64 a ⌝ }
+    ensures { λ r. ⌜ r ≡ whole halfUp a ⌝ }
+{
+    let n = nearest_f64(a);
+    if a < n + 0.5 { n } else { n + 1.0 }
+}
+
+pub fn trunc_f64(x: f64) -> f64
+    ensures { λ r. ⌜ r ≡ truncOf x ⌝ }
+{
+    if x > 0.0 {
+        if x < 4503599627370496.0 {
+            return cut_f64(x);
+        }
+        return x;
+    }
+    let a = -x;
+    if a > 0.0 {
+        if a < 4503599627370496.0 {
+            return -cut_f64(a);
+        }
+        return x;
+    }
+    x
+}
+
+pub fn round_f64(x: f64) -> f64
+    ensures { λ r. ⌜ r ≡ roundOf x ⌝ }
+{
+    if x > 0.0 {
+        if x < 4503599627370496.0 {
+            return half_up_f64(x);
+        }
+        return x;
+    }
+    let a = -x;
+    if a > 0.0 {
+        if a < 4503599627370496.0 {
+            return -half_up_f64(a);
+        }
+        return x;
+    }
+    x
+}
+
+pub fn floor_f64(x: f64) -> f64
+    ensures { λ r. ⌜ r ≡ floorOf x ⌝ }
+{
+    if x > 0.0 {
+        if x < 4503599627370496.0 {
+            return cut_f64(x);
+        }
+        return x;
+    }
+    let a = -x;
+    if a > 0.0 {
+        if a < 4503599627370496.0 {
+            return -raised_f64(a);
+        }
+        return x;
+    }
+    x
+}
