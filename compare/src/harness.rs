@@ -1,0 +1,20 @@
+//! The functions of libharness.a. Each is proved to have a result for every argument and to touch
+//! no memory but its own, so a call is safe.
+
+unsafe extern "C" {
+    pub safe fn h_narrow(x: f64) -> f32;
+    pub safe fn h_widen(x: f32) -> f64;
+    pub safe fn h_sqrt(x: f32) -> f32;
+    pub safe fn h_floor(x: f32) -> f32;
+    pub safe fn h_trunc(x: f32) -> f32;
+    pub safe fn h_round(x: f32) -> f32;
+    pub safe fn h_abs(x: f32) -> f32;
+    pub safe fn h_fract(x: f32) -> f32;
+    pub safe fn h_floor64(x: f64) -> f64;
+    pub safe fn h_round64(x: f64) -> f64;
+    pub safe fn h_trunc64(x: f64) -> f64;
+    pub safe fn h_usize(x: f32) -> usize;
+    pub safe fn h_i64(x: f64) -> i64;
+    pub safe fn h_draw(state: u64) -> u64;
+    pub safe fn h_bi(state: u64) -> f32;
+}

@@ -1,0 +1,103 @@
+// Replays the float helpers on a list of cases at their boundaries. A line of standard input names
+// a helper and gives its arguments; the answer is appended to it.
+use libc::STDIN_FILENO;
+
+// Helpers of one f32 that answer an f32.
+fn answer_f32(line: &[u8]) {
+    let x = vectors::f32_field(line, 1);
+    if vectors::is_named(line, b"floor") {
+        vectors::print_f32(float::floor_f32(x));
+    }
+    if vectors::is_named(line, b"trunc") {
+        vectors::print_f32(float::trunc_f32(x));
+    }
+    if vectors::is_named(line, b"round") {
+        vectors::print_f32(float::round_f32(x));
+    }
+    if vectors::is_named(line, b"fract") {
+        vectors::print_f32(float::fract_f32(x));
+    }
+    if vectors::is_named(line, b"abs") {
+        vectors::print_f32(float::abs_f32(x));
+    }
+    if vectors::is_named(line, b"sqrt") {
+        vectors::print_f32(float::sqrt_f32(x));
+    }
+    if vectors::is_named(line, b"bits") {
+        vectors::print_f32(x);
+    }
+}
+
+// Helpers of one f64 that answer an f64.
+fn answer_f64(line: &[u8]) {
+    let x = vectors::f64_field(line, 1);
+    if vectors::is_named(line, b"floor64") {
+        vectors::print_f64(float::floor_f64(x));
+    }
+    if vectors::is_named(line, b"trunc64") {
+        vectors::print_f64(float::trunc_f64(x));
+    }
+    if vectors::is_named(line, b"round64") {
+        vectors::print_f64(float::round_f64(x));
+    }
+}
+
+// Changes of type.
+fn answer_cast(line: &[u8]) {
+    if vectors::is_named(line, b"widen") {
+        vectors::print_f64(float::widen(vectors::f32_field(line, 1)));
+    }
+    if vectors::is_named(line, b"narrow") {
+        vectors::print_f32(float::narrow(vectors::f64_field(line, 1)));
+    }
+    if vectors::is_named(line, b"usize") {
+        vectors::print_u64(float::f32_to_usize(vectors::f32_field(line, 1)) as u64);
+    }
+    if vectors::is_named(line, b"i64") {
+        vectors::print_i64(float::f64_to_i64(vectors::f64_field(line, 1)));
+    }
+}
+
+// Helpers that pick one of their arguments.
+fn answer_order(line: &[u8]) {
+    let a = vectors::f32_field(line, 1);
+    let b = vectors::f32_field(line, 2);
+    let c = vectors::f32_field(line, 3);
+    if vectors::is_named(line, b"max") {
+        vectors::print_f32(float::max_f32(a, b));
+    }
+    if vectors::is_named(line, b"min") {
+        vectors::print_f32(float::min_f32(a, b));
+    }
+    if vectors::is_named(line, b"clamp") {
+        vectors::print_f32(float::clamp_f32(a, b, c));
+    }
+}
+
+// A name that no helper has gets no answer.
+fn replay_line(line: &[u8]) {
+    vectors::print_text(line);
+    answer_f32(line);
+    answer_f64(line);
+    answer_cast(line);
+    answer_order(line);
+    vectors::print_text(b"\n");
+}
+
+fn replay(text: &[u8]) {
+    let mut at = 0;
+    while at < text.len() {
+        let end = vectors::line_end(text, at);
+        replay_line(&text[at..end]);
+        if end == text.len() {
+            return;
+        }
+        at = end + 1;
+    }
+}
+
+fn main() {
+    let mut text = io::large_buffer();
+    let n = io::read_full(STDIN_FILENO, &mut text);
+    replay(&text[..n]);
+}
