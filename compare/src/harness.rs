@@ -17,4 +17,16 @@ unsafe extern "C" {
     pub safe fn h_i64(x: f64) -> i64;
     pub safe fn h_draw(state: u64) -> u64;
     pub safe fn h_bi(state: u64) -> f32;
+    pub safe fn h_sin(x: f64) -> f64;
+    pub safe fn h_cos(x: f64) -> f64;
+    pub safe fn h_exp(x: f64) -> f64;
+    pub safe fn h_ln(x: f64) -> f64;
+    pub safe fn h_tanh(x: f64) -> f64;
+    pub safe fn h_powf(x: f64, y: f64) -> f64;
+    pub safe fn h_sinf(x: f32) -> f32;
+    pub safe fn h_cosf(x: f32) -> f32;
+    pub safe fn h_expf(x: f32) -> f32;
+    pub safe fn h_lnf(x: f32) -> f32;
+    pub safe fn h_tanhf(x: f32) -> f32;
+    pub safe fn h_powff(x: f32, y: f32) -> f32;
 }

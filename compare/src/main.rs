@@ -3,8 +3,13 @@
 mod bench;
 mod borders;
 mod cases;
+mod engine;
 mod harness;
 mod helpers;
+mod kernel_bench;
+mod kernel_vectors;
+mod kernels;
+mod original;
 mod random;
 mod vectors;
 
@@ -14,7 +19,11 @@ use std::process::ExitCode;
 const USAGE: &str =
     "usage: compare helpers [SCALE]   every f32 and 10^9 f64 patterns; one in SCALE of them
        compare bench             nanoseconds a call, library and Rust
-       compare vectors           writes the replay files of crates/float_vectors";
+       compare vectors           writes the replay files of crates/float_vectors
+       compare kernels [COUNT]   COUNT arguments of each kernel, 10^8 by default
+       compare kernels all       the same, and all f32 patterns of sinf and expf
+       compare kernel-bench      nanoseconds a call of the f32 kernels, library and original
+       compare kernel-vectors    writes the replay files of crates/det_vectors";
 
 fn main() -> ExitCode {
     let words: Vec<String> = env::args().skip(1).collect();
@@ -29,13 +38,18 @@ fn main() -> ExitCode {
             bench::run();
             ExitCode::SUCCESS
         }
-        ["vectors"] => match vectors::run() {
-            Ok(()) => ExitCode::SUCCESS,
-            Err(error) => {
-                eprintln!("compare: {error}");
-                ExitCode::FAILURE
-            }
+        ["vectors"] => written(vectors::run()),
+        ["kernels"] => status(kernels::run(kernels::COUNT)),
+        ["kernels", "all"] => status(kernels::run_all()),
+        ["kernels", count] => match count.parse() {
+            Ok(count) => status(kernels::run(count)),
+            Err(_) => usage(),
         },
+        ["kernel-bench"] => {
+            kernel_bench::run();
+            ExitCode::SUCCESS
+        }
+        ["kernel-vectors"] => written(kernel_vectors::run()),
         _ => usage(),
     }
 }
@@ -45,6 +59,16 @@ fn status(differ: u64) -> ExitCode {
         ExitCode::SUCCESS
     } else {
         ExitCode::FAILURE
+    }
+}
+
+fn written(done: std::io::Result<()>) -> ExitCode {
+    match done {
+        Ok(()) => ExitCode::SUCCESS,
+        Err(error) => {
+            eprintln!("compare: {error}");
+            ExitCode::FAILURE
+        }
     }
 }
 

@@ -1,2 +1,3 @@
 pub mod SplitMix64
 pub mod Draw
+pub mod Kernels

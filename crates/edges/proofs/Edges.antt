@@ -4,10 +4,11 @@ use mathlib.Core.Path.{_≡_, refl}
 use Prim.Native.Nat.{_+_, _^_}
 use mathlib.Core.Bool.{true, false}
 use lib.IntN.{pos, negsuc}
-use lib.Ieee.{fin, odd, round, size}
+use lib.Ieee.{fin, odd, round, size, ofBits, add, sub, neg, mul, div, lt, le}
 use Rattle.ieee.specs.Narrow.{narrowOf}
 use Rattle.ieee.specs.Whole.{whole, roundOf}
 use Rattle.dsp.specs.Draw.{biOf}
+use Rattle.osc.specs.Osc.{polyBlep}
 
 pub edges
     -- "`bi` of k = 0: −1; k = 8,388,608: 0; k = 16,777,215: 1 − 2^−23", which is 8,388,607 × 2^−23
@@ -20,5 +21,7 @@ pub edges
     -- "Narrowed: 1 + 2^−24 is 1; 1 + 3 × 2^−24 is 1 + 2^−22": in units of 2^−24 and of 2^−22
     × (narrowOf (fin false (2 ^ 24 + 1) (negsuc 23)) ≡ fin false 1 (pos 0))
     × (narrowOf (fin false (2 ^ 24 + 3) (negsuc 23)) ≡ fin false (2 ^ 22 + 1) (negsuc 21))
-unfolding biOf whole narrowOf odd round size
-edges = (refl, refl, refl, refl, refl, refl, refl)
+    -- "`poly_blep`(0, 0.25): −1"
+    × (polyBlep (fin false 0 (pos 0)) (fin false 1 (negsuc 1)) ≡ fin true 1 (pos 0))
+unfolding biOf whole narrowOf polyBlep odd round size ofBits add sub neg mul div lt le
+edges = (refl, refl, refl, refl, refl, refl, refl, refl)

@@ -1,0 +1,127 @@
+//! Two functions on the same cases, in two threads.
+
+use std::sync::atomic::{AtomicU64, Ordering};
+use std::thread;
+use std::time::Instant;
+
+const THREADS: usize = 2;
+/// How many cases a thread takes at a time.
+const CHUNK: u64 = 1 << 16;
+/// How many differing cases of a function are printed.
+const SHOWN: usize = 5;
+
+/// A result that is compared bit for bit, where one NaN counts as any other.
+pub trait Answer: Copy {
+    fn same(self, other: Self) -> bool;
+    fn show(self) -> String;
+}
+
+impl Answer for f32 {
+    fn same(self, other: f32) -> bool {
+        self.to_bits() == other.to_bits() || (self.is_nan() && other.is_nan())
+    }
+    fn show(self) -> String {
+        format!("{:08x}", self.to_bits())
+    }
+}
+
+impl Answer for f64 {
+    fn same(self, other: f64) -> bool {
+        self.to_bits() == other.to_bits() || (self.is_nan() && other.is_nan())
+    }
+    fn show(self) -> String {
+        format!("{:016x}", self.to_bits())
+    }
+}
+
+impl Answer for usize {
+    fn same(self, other: usize) -> bool {
+        self == other
+    }
+    fn show(self) -> String {
+        self.to_string()
+    }
+}
+
+impl Answer for i64 {
+    fn same(self, other: i64) -> bool {
+        self == other
+    }
+    fn show(self) -> String {
+        self.to_string()
+    }
+}
+
+impl<A: Answer, B: Answer> Answer for (A, B) {
+    fn same(self, other: (A, B)) -> bool {
+        self.0.same(other.0) && self.1.same(other.1)
+    }
+    fn show(self) -> String {
+        format!("{} {}", self.0.show(), self.1.show())
+    }
+}
+
+/// What is tried of one function: `count` cases, of which `case` makes number i.
+pub struct Cases<C> {
+    pub count: u64,
+    pub case: C,
+}
+
+/// What differs: how many cases, and the lines to print of the first few.
+#[derive(Default)]
+struct Differing {
+    count: u64,
+    lines: Vec<String>,
+}
+
+/// Compares one function, prints its line, and answers how many cases differ.
+pub fn compare<X: Answer, A: Answer>(
+    name: &str,
+    cases: &Cases<impl Fn(u64) -> X + Sync>,
+    library: impl Fn(X) -> A + Sync,
+    rust: impl Fn(X) -> A + Sync,
+) -> u64 {
+    let begun = Instant::now();
+    let next = AtomicU64::new(0);
+    let share = || compare_share(&next, cases, &library, &rust);
+    let shares: Vec<Differing> = thread::scope(|scope| {
+        let threads: Vec<_> = (0..THREADS).map(|_| scope.spawn(share)).collect();
+        threads.into_iter().map(|t| t.join().unwrap()).collect()
+    });
+    let seconds = begun.elapsed().as_secs_f64();
+    let differ = shares.iter().map(|d| d.count).sum();
+    let count = cases.count;
+    println!("{name:8} {count:>10} compared, {differ} differ, {seconds:.1} s");
+    for line in shares.iter().flat_map(|d| &d.lines).take(SHOWN) {
+        println!("  {name} {line}");
+    }
+    differ
+}
+
+/// One thread's share: chunks of cases, as long as there are any left.
+fn compare_share<X: Answer, A: Answer>(
+    next: &AtomicU64,
+    cases: &Cases<impl Fn(u64) -> X>,
+    library: impl Fn(X) -> A,
+    rust: impl Fn(X) -> A,
+) -> Differing {
+    let mut differing = Differing::default();
+    loop {
+        let first = next.fetch_add(CHUNK, Ordering::Relaxed);
+        if first >= cases.count {
+            return differing;
+        }
+        for i in first..cases.count.min(first + CHUNK) {
+            let x = (cases.case)(i);
+            let (ours, theirs) = (library(x), rust(x));
+            if !ours.same(theirs) {
+                differing.count += 1;
+                if differing.lines.len() < SHOWN {
+                    let (x, ours, theirs) = (x.show(), ours.show(), theirs.show());
+                    let line = format!("{x}: library {ours}, Rust {theirs}");
+                    differing.lines.push(line);
+                }
+            }
+        }
+    }
+}

@@ -1,0 +1,3 @@
+//! The original's files, unchanged: build.rs copies them.
+
+include!(concat!(env!("OUT_DIR"), "/original.rs"));

@@ -1,0 +1,63 @@
+-- `det::power::powf` meets its contract. Assumes nothing.
+use borrow.Author.Needs.{needs}
+use mathlib.Core.Path.{refl}
+use Rattle.laws.proofs.If.{if-true, if-false}
+use Rattle.det.specs.Pow.{powfOf}
+use Rattle.det.proofs.power.powf.Statement.{statement}
+use Rattle.det.proofs.power.powf.Tie as tie
+
+returns : tie.Need-returns
+unfolding powfOf
+returns c = if-true _ (c .if1 .taken) refl
+
+returns-2 : tie.Need-returns-2
+unfolding powfOf
+returns-2 c = if-false _ (c .before .before .if1 .left) (if-true _ (c .before .if2 .taken) (if-true _ (c .if3 .taken) refl))
+
+infinity-requires : tie.Need-infinity-requires
+infinity-requires c κs = search needs
+
+returns-3 : tie.Need-returns-3
+unfolding powfOf
+returns-3 c =
+    if-false _ (c .before .before .before .if1 .left)
+    (if-true _ (c .before .before .if2 .taken)
+    (if-false _ (c .before .if3 .left) (c .infinity .ensures)))
+
+not-a-number-requires : tie.Need-not-a-number-requires
+not-a-number-requires c κs = search needs
+
+returns-4 : tie.Need-returns-4
+unfolding powfOf
+returns-4 c =
+    if-false _ (c .before .before .before .if1 .left)
+    (if-false _ (c .before .before .if2 .left)
+    (if-true _ (c .before .if4 .taken) (c .not-a-number .ensures)))
+
+ln-requires : tie.Need-ln-requires
+ln-requires c κs = search needs
+
+exp-requires : tie.Need-exp-requires
+exp-requires c κs = search needs
+
+returns-5 : tie.Need-returns-5
+unfolding powfOf
+returns-5 c =
+    if-false _ (c .before .before .before .before .if1 .left)
+    (if-false _ (c .before .before .before .if2 .left)
+    (if-false _ (c .before .before .if4 .left)
+    (rw (c .exp .ensures, c .before .ln .ensures))))
+
+pub powf-spec : {M : Type 1} → statement M
+powf-spec =
+    tie.close
+    (tie.spec
+    returns
+    returns-2
+    infinity-requires
+    returns-3
+    not-a-number-requires
+    returns-4
+    ln-requires
+    exp-requires
+    returns-5)

@@ -1,0 +1,12 @@
+-- `det::special::not_a_number` meets its contract. Assumes nothing.
+use mathlib.Core.Path.{refl}
+use lib.Ieee.{div, ofBits}
+use Rattle.det.proofs.special.not_a_number.Statement.{statement}
+use Rattle.det.proofs.special.not_a_number.Tie as tie
+
+returns : tie.Need-returns
+unfolding div ofBits
+returns c = refl
+
+pub not-a-number-spec : {M : Type 1} → statement M
+not-a-number-spec = tie.close (tie.spec returns)

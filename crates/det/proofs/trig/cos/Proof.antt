@@ -1,0 +1,15 @@
+-- `det::trig::cos` meets its contract. Assumes nothing.
+use borrow.Author.Needs.{needs}
+use Rattle.det.specs.Trig.{cosOf}
+use Rattle.det.proofs.trig.cos.Statement.{statement}
+use Rattle.det.proofs.trig.cos.Tie as tie
+
+sin-requires : tie.Need-sin-requires
+sin-requires c κs = search needs
+
+returns : tie.Need-returns
+unfolding cosOf
+returns c = rw (c .sin .ensures)
+
+pub cos-spec : {M : Type 1} → statement M
+cos-spec = tie.close (tie.spec sin-requires returns)

@@ -1,0 +1,77 @@
+-- The part of det.rs from `LN2_HI` to `exp`: powers of two and the exponential.
+use Prim.Native.Nat.{_*_, _^_}
+use mathlib.Core.Bool.{false, cond}
+use lib.IntN.{ℤ, pos, negsuc, natAbs, _+ℤ_}
+use lib.Signed.{ltZ}
+use lib.Ieee.{Float, inf, binary64, ofBits, lt, toSigned}
+use Rattle.ieee.specs.Binary64.{_⊕_, _⊖_, _⊗_, _⊘_}
+use Rattle.ieee.specs.Whole.{roundOf}
+use Rattle.det.specs.Constants.{c0, c1, c2}
+
+-- ln 2 in two parts
+-- 6.93147180369123816490e-01
+abbrev pub LN2·HI : Float
+LN2·HI = ofBits binary64 0x3fe6_2e42_fee0_0000
+
+-- 1.90821492927058770002e-10
+abbrev pub LN2·LO : Float
+LN2·LO = ofBits binary64 0x3dea_39ef_3579_3c76
+
+-- 1 / ln 2. LOG2_E, 1.44269504088896340735992468100189214
+abbrev pub INV·LN2 : Float
+INV·LN2 = ofBits binary64 0x3ff7_1547_652b_82fe
+
+-- fn ldexp2: 2 ^ k by its pattern. From -1023 on the field of the exponent is k + 1023, also where that is 0, the field of zero and of the subnormals.
+-- Below that the one digit is k + 1074 places above the smallest value's.
+unfoldable pub ldexp2Of : ℤ → Float
+ldexp2Of k =
+    cond (ltZ (pos 1023) k) (inf false)
+    (cond (ltZ k (negsuc 1022))
+    (cond (ltZ k (negsuc 1073)) c0
+    (ofBits binary64 (2 ^ natAbs (k +ℤ pos 1074))))
+    (ofBits binary64 (natAbs (k +ℤ pos 1023) * 2 ^ 52)))
+
+-- 1.66666666666666019037e-01
+abbrev pub P1 : Float
+P1 = ofBits binary64 0x3fc5_5555_5555_553e
+
+-- -2.77777777770155933842e-03
+abbrev pub P2 : Float
+P2 = ofBits binary64 0xbf66_c16c_16be_bd93
+
+-- 6.61375632143793436117e-05
+abbrev pub P3 : Float
+P3 = ofBits binary64 0x3f11_566a_af25_de2c
+
+-- -1.65339022054652515390e-06
+abbrev pub P4 : Float
+P4 = ofBits binary64 0xbebb_bd41_c5d2_6bf1
+
+-- 4.13813679705723846039e-08
+abbrev pub P5 : Float
+P5 = ofBits binary64 0x3e66_3769_72be_a4d0
+
+-- above this the answer is an infinity: 7.09782712893383e+02
+abbrev pub EXP·MAX : Float
+EXP·MAX = ofBits binary64 0x4086_2e42_fefa_39e6
+
+-- below this it is 0: -7.45133219101941e+02
+abbrev pub EXP·MIN : Float
+EXP·MIN = ofBits binary64 0xc087_4910_d52d_3050
+
+-- fn exp, past its two tests
+unfoldable pub expReduced : Float → Float
+expReduced x =
+    let k = roundOf (x ⊗ INV·LN2) in
+    let r = x ⊖ k ⊗ LN2·HI ⊖ k ⊗ LN2·LO in
+    let t = r ⊗ r in
+    let c = r ⊖ t ⊗ (P1 ⊕ t ⊗ (P2 ⊕ t ⊗ (P3 ⊕ t ⊗ (P4 ⊕ t ⊗ P5)))) in
+    let y = c1 ⊖ (r ⊗ c ⊘ (c ⊖ c2) ⊖ r) in
+    y ⊗ ldexp2Of (toSigned 63 k)
+
+-- fn exp
+unfoldable pub expOf : Float → Float
+expOf x =
+    cond (lt EXP·MAX x) (inf false)
+    (cond (lt x EXP·MIN) c0
+    (expReduced x))

@@ -1,0 +1,8 @@
+pub mod Constants
+pub mod Rounded
+pub mod Trig
+pub mod Exp
+pub mod Ln
+pub mod Pow
+pub mod Tanh
+pub mod Single

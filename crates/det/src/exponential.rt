@@ -1,0 +1,66 @@
+// Powers of two and the exponential: e^x = 2^k · e^r with k the whole number nearest to x / ln 2.
+ghost use mathlib.Core.Path.{_≡_};
+ghost use Rattle.det.specs.Exp.{ldexp2Of, expReduced, expOf};
+use crate::rounded::rounded_to_i64;
+use crate::special::infinity;
+
+pub(crate) const LN2_HI: f64 = 6.93147180369123816490e-01; // 3fe62e42fee00000
+
+pub(crate) const LN2_LO: f64 = 1.90821492927058770002e-10; // 3dea39ef35793c76
+
+const INV_LN2: f64 = 1.44269504088896340735992468100189214; // LOG2_E, 3ff71547652b82fe
+
+const P1: f64 = 1.66666666666666019037e-01; // 3fc555555555553e
+
+const P2: f64 = -2.77777777770155933842e-03; // bf66c16c16bebd93
+
+const P3: f64 = 6.61375632143793436117e-05; // 3f11566aaf25de2c
+
+const P4: f64 = -1.65339022054652515390e-06; // bebbbd41c5d26bf1
+
+const P5: f64 = 4.13813679705723846039e-08; // 3e66376972bea4d0
+
+const EXP_MAX: f64 = 7.09782712893383e+02; // 40862e42fefa39e6
+
+const EXP_MIN: f64 = -7.45133219101941e+02; // c0874910d52d3050
+
+// 2^k by its bit pattern: an infinity for k > 1023, 0 for k < -1074. At k = -1023 the pattern is
+// that of 0 too.
+fn ldexp2(k: i64) -> f64
+    ensures { λ r. ⌜ r ≡ ldexp2Of k ⌝ }
+{
+    if k > 1023 {
+        return infinity();
+    }
+    if k < -1023 {
+        if k < -1074 {
+            return 0.0;
+        }
+        return f64::from_bits(1u64 << ((k + 1074) as u64));
+    }
+    f64::from_bits(((k + 1023) as u64) << 52)
+}
+
+// exp(x) = 2^k · exp(r), with exp(r) = 1 − (r·c/(c − 2) − r) and c = r − r²·P(r²).
+fn exp_reduced(x: f64) -> f64
+    ensures { λ r. ⌜ r ≡ expReduced x ⌝ }
+{
+    let k = float::round_f64(x * INV_LN2);
+    let r = (x - k * LN2_HI) - k * LN2_LO;
+    let t = r * r;
+    let c = r - t * (P1 + t * (P2 + t * (P3 + t * (P4 + t * P5))));
+    let y = 1.0 - ((r * c) / (c - 2.0) - r);
+    y * ldexp2(rounded_to_i64(k))
+}
+
+pub fn exp(x: f64) -> f64
+    ensures { λ r. ⌜ r ≡ expOf x ⌝ }
+{
+    if x > EXP_MAX {
+        return infinity();
+    }
+    if x < EXP_MIN {
+        return 0.0;
+    }
+    exp_reduced(x)
+}

@@ -1,0 +1,45 @@
+// The f32 wrappers: the f64 kernel, narrowed once.
+ghost use mathlib.Core.Path.{_≡_};
+ghost use Rattle.det.specs.Single.{sinfOf, cosfOf, expfOf, lnfOf, powffOf, tanhfOf};
+use crate::exponential::exp;
+use crate::hyperbolic::tanh;
+use crate::logarithm::ln;
+use crate::power::powf;
+use crate::trig::cos;
+use crate::trig::sin;
+
+pub fn sinf(x: f32) -> f32
+    ensures { λ r. ⌜ r ≡ sinfOf x ⌝ }
+{
+    float::narrow(sin(float::widen(x)))
+}
+
+pub fn cosf(x: f32) -> f32
+    ensures { λ r. ⌜ r ≡ cosfOf x ⌝ }
+{
+    float::narrow(cos(float::widen(x)))
+}
+
+pub fn expf(x: f32) -> f32
+    ensures { λ r. ⌜ r ≡ expfOf x ⌝ }
+{
+    float::narrow(exp(float::widen(x)))
+}
+
+pub fn lnf(x: f32) -> f32
+    ensures { λ r. ⌜ r ≡ lnfOf x ⌝ }
+{
+    float::narrow(ln(float::widen(x)))
+}
+
+pub fn powff(x: f32, y: f32) -> f32
+    ensures { λ r. ⌜ r ≡ powffOf x y ⌝ }
+{
+    float::narrow(powf(float::widen(x), float::widen(y)))
+}
+
+pub fn tanhf(x: f32) -> f32
+    ensures { λ r. ⌜ r ≡ tanhfOf x ⌝ }
+{
+    float::narrow(tanh(float::widen(x)))
+}

@@ -1,0 +1,53 @@
+-- "finite and of magnitude at most 65,536", of each kind of value. Assumes nothing.
+use mathlib.Core.Path.{_≡_, refl, sym, ap, _∙_, subst}
+use Prim.Native.Nat.{ℕ, _*_, _≤_, _<_}
+use native.Mathlib.Nat.{eq-or-lt-of-le, le-of-lt, le-of-eq}
+use native.Mathlib.Omega.{arith}
+use mathlib.Core.Logic.{_⊎_, inl, inr}
+use mathlib.Core.Bool.{Bool, true, false, not, _||_, _&&_, false≢true}
+use lib.IntN.{ℤ}
+use lib.Dec.{T, ltb, leb, eqb, eqb-refl, ltb→lt, lt→ltb, leb→le, le→leb, eqb→eq}
+use lib.Ieee.{Float, nan, inf, fin, up, down, le, ofBits, isNan}
+use Rattle.ieee.specs.Sign.{absOf}
+use Rattle.ieee.proofs.Value.{same-test}
+use Rattle.dsl.specs.Sized.{sizedOf}
+
+pub sized-nan : sizedOf nan ≡ false
+unfolding sizedOf absOf le
+sized-nan = refl
+
+pub sized-inf : (s : Bool) → sizedOf (inf s) ≡ false
+unfolding sizedOf absOf le ofBits
+sized-inf s = refl
+
+-- a test of `<` or `=`, as `le` makes it of two numbers with one sign
+either-le : (a b : ℕ) → (ltb a b || (eqb a b && true)) ≡ leb a b
+either-le a b = same-test _ (leb a b) (λ t. le→leb a b (down-le (ltb a b) (eqb a b) (ltb→lt a b) (eqb→eq a b) t)) (λ t. up-le (leb→le a b t))
+  where
+    down-le : (x y : Bool) → (T x → a < b) → (T y → a ≡ b) → T (x || (y && true)) → a ≤ b
+    down-le true y p q t = le-of-lt (p tt)
+    down-le false true p q t = le-of-eq (q tt)
+    down-le false false p q t = absurd t
+
+    or-l : (x y : Bool) → T x → T (x || y)
+    or-l true y t = tt
+    or-l false y t = absurd t
+
+    or-r : (x y : Bool) → T y → T (x || (y && true))
+    or-r true y t = tt
+    or-r false true t = tt
+    or-r false false t = t
+
+    up-le : a ≤ b → T (ltb a b || (eqb a b && true))
+    up-le h = elim (eq-or-lt-of-le h) [ inl p ↦ or-r (ltb a b) (eqb a b) (subst (λ (x : ℕ). T (eqb a x)) p (eqb-refl a)) | inr l ↦ or-l (ltb a b) (eqb a b && true) (lt→ltb a b l) ]
+
+-- m * 2 ^ e of either sign
+pub sized-fin : (s : Bool) (m : ℕ) (e : ℤ) → sizedOf (fin s m e) ≡ leb (m * up e * 1) (65536 * down e)
+unfolding sizedOf absOf le ofBits
+sized-fin s m e = either-le (m * up e * 1) (65536 * down e)
+
+pub sized-number : (x : Float) → sizedOf x ≡ true → T (not (isNan x))
+unfolding isNan
+sized-number nan h = absurd (false≢true (sym sized-nan ∙ h))
+sized-number (inf s) h = tt
+sized-number (fin s m e) h = tt

@@ -1,0 +1,66 @@
+-- `dsl::sized::all_sized` meets its contract. The loop's invariant: whether the numbers from i on are all sized is whether all are. Assumes nothing.
+use mathlib.Core.Path.{_≡_, refl}
+use native.Mathlib.Omega.{arith}
+use Prim.Native.Nat.{_-_, _≤_}
+use lib.ListN.{length, drop}
+use borrow.Author.Needs.{needs}
+use borrow.Author.Tests.{not-true, not-false}
+use Rattle.dsl.specs.Sized.{allSized}
+use Rattle.dsl.proofs.Sizing.{found, passed, ended}
+use Rattle.dsl.proofs.sized.all_sized.Statement.{statement}
+use Rattle.dsl.proofs.sized.all_sized.Tie as tie
+
+abbrev Inv-loop : tie.InvT-loop
+Inv-loop xs i₀ i = (allSized (drop i xs) ≡ allSized xs) × (i ≤ length xs)
+
+abbrev μ-loop : tie.MeasureT-loop
+μ-loop xs i₀ i = length xs - i
+
+loop-holds : tie.Need-loop-holds Inv-loop μ-loop
+loop-holds c = (refl, omega arith)
+
+mul-is-sized : tie.Need-mul-is-sized Inv-loop μ-loop
+mul-is-sized c = search needs
+
+shared-slice-read-is-sized : tie.Need-shared-slice-read-is-sized Inv-loop μ-loop
+shared-slice-read-is-sized c = search needs
+
+is-sized-requires : tie.Need-is-sized-requires Inv-loop μ-loop
+is-sized-requires c κs = search needs
+
+returns : tie.Need-returns Inv-loop μ-loop
+returns c =
+    found (c .before .before .before .before .before .before .args .xs .now) (c .before .before .before .before .loop .i) (c .before .before .before .before .loop .inv .0) (omega arith)
+    (not-true _ (rw (c .before .is-sized .ensures) at (c .if1 .taken)))
+
+add-i : tie.Need-add-i Inv-loop μ-loop
+add-i c = search needs
+
+loop-less : tie.Need-loop-less Inv-loop μ-loop
+loop-less c = omega arith
+
+loop-again : tie.Need-loop-again Inv-loop μ-loop
+loop-again c = (
+  passed (c .before .before .before .before .before .before .args .xs .now) (c .before .before .before .before .loop .i) (c .before .before .before .before .loop .inv .0) (omega arith)
+      (not-false _ (rw (c .before .is-sized .ensures) at (c .if1 .left))),
+  omega arith,
+)
+
+returns-2 : tie.Need-returns-2 Inv-loop μ-loop
+returns-2 c = ended (c .before .before .before .args .xs .now) (c .before .loop .i) (c .before .loop .inv .0) (omega arith)
+
+pub all-sized-spec : {M : Type 1} → statement M
+all-sized-spec =
+    tie.close
+    (tie.spec
+    Inv-loop
+    μ-loop
+    loop-holds
+    mul-is-sized
+    shared-slice-read-is-sized
+    is-sized-requires
+    returns
+    add-i
+    loop-less
+    loop-again
+    returns-2)

@@ -1,0 +1,5 @@
+pub mod Wave
+pub mod Sized
+pub mod Knobs
+pub mod Pitch
+pub mod Note

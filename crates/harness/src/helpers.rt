@@ -1,0 +1,122 @@
+// The float helpers and the generator.
+ghost use mathlib.Core.Path.{_≡_};
+ghost use Prim.Native.Nat.{_/_, _^_};
+ghost use lib.Ieee.{binary32, toUnsigned, toSigned};
+ghost use Rattle.ieee.specs.Narrow.{narrowOf};
+ghost use Rattle.ieee.specs.Root.{sqrtOf};
+ghost use Rattle.ieee.specs.Sign.{absOf};
+ghost use Rattle.ieee.specs.Whole.{floorOf, truncOf, roundOf, fractOf};
+ghost use Rattle.dsp.specs.SplitMix64.{next};
+ghost use Rattle.dsp.specs.Draw.{biOf};
+use dsp::Rng;
+
+#[no_mangle]
+pub extern "C" fn h_narrow(x: f64) -> f32
+    ensures { λ r. ⌜ r ≡ narrowOf x ⌝ }
+{
+    float::narrow(x)
+}
+
+#[no_mangle]
+pub extern "C" fn h_widen(x: f32) -> f64
+    ensures { λ r. ⌜ r ≡ x ⌝ }
+{
+    float::widen(x)
+}
+
+#[no_mangle]
+pub extern "C" fn h_sqrt(x: f32) -> f32
+    ensures { λ r. ⌜ r ≡ sqrtOf x ⌝ }
+{
+    float::sqrt_f32(x)
+}
+
+#[no_mangle]
+pub extern "C" fn h_floor(x: f32) -> f32
+    ensures { λ r. ⌜ r ≡ floorOf x ⌝ }
+{
+    float::floor_f32(x)
+}
+
+#[no_mangle]
+pub extern "C" fn h_trunc(x: f32) -> f32
+    ensures { λ r. ⌜ r ≡ truncOf x ⌝ }
+{
+    float::trunc_f32(x)
+}
+
+#[no_mangle]
+pub extern "C" fn h_round(x: f32) -> f32
+    ensures { λ r. ⌜ r ≡ roundOf x ⌝ }
+{
+    float::round_f32(x)
+}
+
+#[no_mangle]
+pub extern "C" fn h_abs(x: f32) -> f32
+    ensures { λ r. ⌜ r ≡ absOf x ⌝ }
+{
+    float::abs_f32(x)
+}
+
+#[no_mangle]
+pub extern "C" fn h_fract(x: f32) -> f32
+    ensures { λ r. ⌜ r ≡ fractOf binary32 x ⌝ }
+{
+    float::fract_f32(x)
+}
+
+#[no_mangle]
+pub extern "C" fn h_floor64(x: f64) -> f64
+    ensures { λ r. ⌜ r ≡ floorOf x ⌝ }
+{
+    float::floor_f64(x)
+}
+
+#[no_mangle]
+pub extern "C" fn h_round64(x: f64) -> f64
+    ensures { λ r. ⌜ r ≡ roundOf x ⌝ }
+{
+    float::round_f64(x)
+}
+
+#[no_mangle]
+pub extern "C" fn h_trunc64(x: f64) -> f64
+    ensures { λ r. ⌜ r ≡ truncOf x ⌝ }
+{
+    float::trunc_f64(x)
+}
+
+// Rust's `as usize`.
+#[no_mangle]
+pub extern "C" fn h_usize(x: f32) -> usize
+    ensures { λ r. ⌜ r ≡ toUnsigned 64 x ⌝ }
+{
+    float::f32_to_usize(x)
+}
+
+// Rust's `as i64`.
+#[no_mangle]
+pub extern "C" fn h_i64(x: f64) -> i64
+    ensures { λ r. ⌜ r ≡ toSigned 63 x ⌝ }
+{
+    float::f64_to_i64(x)
+}
+
+// What `next_u64` gives at a state.
+#[no_mangle]
+pub extern "C" fn h_draw(state: u64) -> u64
+    ensures { λ r. ⌜ r ≡ next state ⌝ }
+{
+    let d = Rng::new(state).next_u64();
+    d.value
+}
+
+// What `bi` gives at a state.
+#[no_mangle]
+pub extern "C" fn h_bi(state: u64) -> f32
+    ensures { λ r. ⌜ r ≡ biOf (next state / 2 ^ 40) ⌝ }
+{
+    let d = Rng::new(state).bi();
+    d.value
+}

@@ -1,0 +1,3 @@
+pub mod Constants
+pub mod Osc
+pub mod Phase

@@ -1,0 +1,5 @@
+pub mod Plain
+pub mod Pulse
+pub mod Noise
+pub mod Fm
+pub mod Cowbell

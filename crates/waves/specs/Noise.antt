@@ -1,0 +1,21 @@
+-- `SeqWave::Noise` of `seq_note_signal`: a `bi` a frame.
+use Prim.Native.Nat.{ℕ, _/_, _^_}
+use mathlib.Core.List.{List}
+use lib.Ieee.{Float}
+use Rattle.laws.specs.Run.{samples, stateAt}
+use Rattle.dsp.specs.SplitMix64.{advance, next}
+use Rattle.dsp.specs.Draw.{biOf}
+use Rattle.dsp.specs.declared.rng.Rng.{Rng}
+use Rattle.waves.specs.declared.hiss.NoiseOut.{NoiseOut}
+
+unfoldable pub noiseAt : Rng → NoiseOut
+noiseAt rng = record { sample = biOf (next (rng .0) / 2 ^ 40); state = record { 0 = advance (rng .0) } }
+
+unfoldable pub noiseFrames : Rng → ℕ → List Float
+unfolding noiseAt
+noiseFrames rng n = samples (λ i. noiseAt) (λ r. r .sample) (λ r. r .state) rng n
+
+-- the generator after n frames
+unfoldable pub noiseEnd : Rng → ℕ → Rng
+unfolding noiseAt
+noiseEnd rng n = stateAt (λ i. noiseAt) (λ r. r .sample) (λ r. r .state) rng n
