@@ -3,7 +3,10 @@
 mod bench;
 mod borders;
 mod cases;
+mod dsp;
 mod engine;
+mod groove_cases;
+mod groove_vectors;
 mod harness;
 mod helpers;
 mod kernel_bench;
@@ -23,7 +26,8 @@ const USAGE: &str =
        compare kernels [COUNT]   COUNT arguments of each kernel, 10^8 by default
        compare kernels all       the same, and all f32 patterns of sinf and expf
        compare kernel-bench      nanoseconds a call of the f32 kernels, library and original
-       compare kernel-vectors    writes the replay files of crates/det_vectors";
+       compare kernel-vectors    writes the replay files of crates/det_vectors
+       compare groove-vectors    writes the replay files of crates/groove_vectors";
 
 fn main() -> ExitCode {
     let words: Vec<String> = env::args().skip(1).collect();
@@ -50,6 +54,7 @@ fn main() -> ExitCode {
             ExitCode::SUCCESS
         }
         ["kernel-vectors"] => written(kernel_vectors::run()),
+        ["groove-vectors"] => written(groove_vectors::run()),
         _ => usage(),
     }
 }

@@ -1,16 +1,18 @@
 -- "finite and of magnitude at most 65,536", of each kind of value. Assumes nothing.
-use mathlib.Core.Path.{_≡_, refl, sym, ap, _∙_, subst}
+use mathlib.Core.Path.{_≡_, refl, sym, _∙_, subst}
 use Prim.Native.Nat.{ℕ, _*_, _≤_, _<_}
 use native.Mathlib.Nat.{eq-or-lt-of-le, le-of-lt, le-of-eq}
-use native.Mathlib.Omega.{arith}
-use mathlib.Core.Logic.{_⊎_, inl, inr}
+use mathlib.Core.Logic.{inl, inr}
 use mathlib.Core.Bool.{Bool, true, false, not, _||_, _&&_, false≢true}
 use lib.IntN.{ℤ}
 use lib.Dec.{T, ltb, leb, eqb, eqb-refl, ltb→lt, lt→ltb, leb→le, le→leb, eqb→eq}
 use lib.Ieee.{Float, nan, inf, fin, up, down, le, ofBits, isNan}
 use Rattle.ieee.specs.Sign.{absOf}
 use Rattle.ieee.proofs.Value.{same-test}
-use Rattle.dsl.specs.Sized.{sizedOf}
+use Rattle.dsl.specs.declared.pitch.Pitch.{Pitch}
+use Rattle.dsl.specs.declared.pitch.Pitch.the-variants.{Const, Curve}
+use Rattle.dsl.specs.Sized.{sizedOf, pitchSized}
+use Rattle.dsl.specs.Domain.{numeric}
 
 pub sized-nan : sizedOf nan ≡ false
 unfolding sizedOf absOf le
@@ -51,3 +53,9 @@ unfolding isNan
 sized-number nan h = absurd (false≢true (sym sized-nan ∙ h))
 sized-number (inf s) h = tt
 sized-number (fin s m e) h = tt
+
+-- what refusal 10 lets through is a number
+pub sized-numeric : (p : Pitch) → pitchSized p ≡ true → numeric p
+unfolding pitchSized
+sized-numeric (Const x) h = sized-number x h
+sized-numeric (Curve offset) h = tt

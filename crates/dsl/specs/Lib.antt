@@ -3,3 +3,4 @@ pub mod Sized
 pub mod Knobs
 pub mod Pitch
 pub mod Note
+pub mod Domain

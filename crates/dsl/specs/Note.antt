@@ -5,7 +5,6 @@ use lib.Dec.{eqb}
 use lib.Ieee.{binary32, ofBits}
 use Rattle.dsl.specs.declared.pitch.Pitch.{Pitch}
 use Rattle.dsl.specs.declared.pitch.Pitch.the-variants.{Const, Curve}
-use Rattle.dsl.specs.declared.note.SeqNote.{SeqNote}
 use Rattle.dsl.specs.declared.note.Decoded.{Decoded}
 use Rattle.dsl.specs.declared.note.Decoded.the-variants.{Note, Kind}
 

@@ -1,5 +1,5 @@
-// The knob sets and the envelope. A field has the source's name and stands in the source's order, which is the order of a
-// text score's knobs.
+// The knob sets and the envelope. Fields have the source's names and stand in the source's order,
+// which is the order of a text score's knobs.
 ghost use mathlib.Core.Path.{_≡_};
 ghost use Rattle.dsl.specs.Sized.{allSized};
 ghost use Rattle.dsl.specs.Knobs.{knobList, envList};

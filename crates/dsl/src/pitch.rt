@@ -3,6 +3,8 @@ ghost use mathlib.Core.Path.{_≡_};
 ghost use Prim.Native.Nat.{_+_};
 ghost use lib.ListN.{length};
 ghost use Rattle.dsl.specs.Pitch.{pitchAt, reaches};
+ghost use Rattle.dsl.specs.Sized.{pitchSized};
+use crate::sized::is_sized;
 
 // A number in hertz, or a curve that starts at an offset of a lane.
 pub enum Pitch {
@@ -11,6 +13,16 @@ pub enum Pitch {
 }
 
 impl Pitch {
+    // Whether a number is sized; a curve's values are its lane's.
+    pub fn is_sized(self) -> bool
+        ensures { λ r. ⌜ r ≡ pitchSized self ⌝ }
+    {
+        match self {
+            Pitch::Const(x) => is_sized(x),
+            Pitch::Curve(_) => true,
+        }
+    }
+
     // The pitch at frame i. A curve must reach past it: in a score call refusal 12 gives that, in a
     // note call refusal 14.
     pub fn at(self, lane: &[f32], i: usize) -> f32

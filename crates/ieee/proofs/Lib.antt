@@ -8,3 +8,7 @@ pub mod Sums
 pub mod Halves
 pub mod Units
 pub mod Nearest
+pub mod Bounds
+pub mod Cut
+pub mod Range
+pub mod Size

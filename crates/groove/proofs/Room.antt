@@ -1,0 +1,83 @@
+-- What the score call leans on: a note's frames lie within the output, a curve's last place is a number of 33 bits, and a note's draws are few. Assumes nothing.
+use mathlib.Core.Path.{_≡_, refl}
+use Prim.Native.Nat.{ℕ, _+_, _^_, _≤_, _<_, max}
+use native.Mathlib.Omega.{arith}
+use mathlib.Core.Bool.{Bool, true, false, cond}
+use lib.Ieee.{Float, lt, toUnsigned}
+use Rattle.ieee.specs.Binary32.{_⊗_}
+use Rattle.ieee.specs.Order.{minOf}
+use Rattle.dsl.specs.declared.wave.SeqWave.{SeqWave}
+use Rattle.dsl.specs.declared.wave.SeqWave.the-variants.{Square, Triangle, Sawtooth, Sine, Noise, Fm, Pluck, Piano, Epiano, Organ, Strings, Brass, Flute, Mallet, Bell, Bass, Cowbell}
+use Rattle.groove.specs.Number.{f32}
+use Rattle.dsl.specs.Domain.{Rate, Frames}
+use Rattle.groove.specs.Length.{lengthOf, soundedOf}
+use Rattle.groove.specs.Draws.{drawsOf}
+use Rattle.ieee.proofs.Bounds.{AtMost, value-at-most, lt-at-most}
+use Rattle.ieee.proofs.Cut.{cut-at-most}
+use Rattle.groove.proofs.Exact.{frames-value}
+use Rattle.groove.proofs.Periods.{period-fits}
+
+-- ---- a note's length
+module _ (len : ℕ) (dur : Float) (n : ℕ) where
+  pub length-least : 1 ≤ lengthOf len dur n
+  unfolding lengthOf
+  length-least = omega arith
+
+  module _ (h : Frames n) where
+    capped : AtMost (minOf (f32 len ⊗ dur) (f32 n)) n 1
+    capped = go (lt (f32 len ⊗ dur) (f32 n)) (lt-at-most (f32 len ⊗ dur) (f32 n) n 1 (frames-value n h))
+      where
+        go : (t : Bool) → (t ≡ true → AtMost (f32 len ⊗ dur) n 1) → AtMost (cond t (f32 len ⊗ dur) (f32 n)) n 1
+        go true p = p refl
+        go false p = value-at-most (f32 n) n 1 n 1 (omega arith) (frames-value n h) (omega arith)
+
+    -- whatever the samples per step are
+    pub length-most : lengthOf len dur n ≤ max n 1
+    unfolding lengthOf
+    length-most = under (toUnsigned 64 (minOf (f32 len ⊗ dur) (f32 n))) (cut-at-most 64 (minOf (f32 len ⊗ dur) (f32 n)) n capped)
+      where
+        under : (k : ℕ) → k ≤ n → max k 1 ≤ max n 1
+        under k l = omega arith
+
+    -- "offset + length" of a curve fits 64 bits
+    pub curve-fits : (offset : ℕ) → offset < 2 ^ 32 → offset + lengthOf len dur n < 2 ^ 33
+    curve-fits offset l = omega (arith, length-most, h .most)
+
+    -- "start + length" of a note that is not skipped
+    pub end-fits : (start : ℕ) → start < n → start + lengthOf len dur n ≤ 2 ^ 25
+    end-fits start l = omega (arith, length-most, h .most)
+
+-- ---- the frames that sound
+module _ (n start length : ℕ) where
+  pub sounded-le : soundedOf n start length ≤ length
+  sounded-le = omega arith
+
+  pub sounded-within : start < n → start + soundedOf n start length ≤ n
+  sounded-within h = omega arith
+
+  pub sounded-some : start < n → 1 ≤ length → 1 ≤ soundedOf n start length
+  sounded-some h l = omega arith
+
+  pub sounded-none : n ≤ start → soundedOf n start length ≡ 0
+  sounded-none h = omega arith
+
+-- ---- a note's draws
+pub draws-most : (wave : SeqWave) (rate : ℕ) → Rate rate → (first : Float) (frames : ℕ) → drawsOf wave rate first frames ≤ max frames 9600
+unfolding drawsOf
+draws-most Square rate r first frames = omega arith
+draws-most Triangle rate r first frames = omega arith
+draws-most Sawtooth rate r first frames = omega arith
+draws-most Sine rate r first frames = omega arith
+draws-most Noise rate r first frames = omega arith
+draws-most Fm rate r first frames = omega arith
+draws-most Pluck rate r first frames = omega (arith, period-fits rate r first)
+draws-most Piano rate r first frames = omega arith
+draws-most Epiano rate r first frames = omega arith
+draws-most Organ rate r first frames = omega arith
+draws-most Strings rate r first frames = omega arith
+draws-most Brass rate r first frames = omega arith
+draws-most Flute rate r first frames = omega arith
+draws-most Mallet rate r first frames = omega arith
+draws-most Bell rate r first frames = omega arith
+draws-most Bass rate r first frames = omega arith
+draws-most Cowbell rate r first frames = omega arith

@@ -1,0 +1,6 @@
+pub mod Number
+pub mod Humanize
+pub mod Timing
+pub mod Length
+pub mod Period
+pub mod Draws
