@@ -1,14 +1,12 @@
-// Links the proved library, which `rt staticlib harness` writes, and brings in the original: whole
-// files where they compile by themselves, otherwise functions by their text, unchanged. Where a piece
-// is not found the build stops.
+// Links the proved library, which `rt staticlib harness` writes, and takes the lines of the original
+// that no function of its own gives, by their text and unchanged. Where one is not found the build
+// stops. The original's files themselves are the crate `tono`, in original/.
 use std::env;
 use std::fs;
 use std::path::{Path, PathBuf};
 
 /// The original's sources, below $TONO_SRC; without it, beside this repository.
 const DEFAULT_SOURCE: &str = "../../shared/docs/src";
-/// The files that are compiled as they are, and the module's name of each.
-const FILES: [(&str, &str); 1] = [("det", "crates/tono-core/src/det.rs.txt")];
 
 fn main() {
     let own = env::var("CARGO_MANIFEST_DIR").expect("cargo sets CARGO_MANIFEST_DIR");
@@ -20,7 +18,6 @@ fn main() {
         None => own.join(DEFAULT_SOURCE),
     };
     let out = PathBuf::from(env::var_os("OUT_DIR").expect("cargo sets OUT_DIR"));
-    copy_original(&source, &out);
     let text = |name| read(&source.join("crates/tono-core/src").join(name));
     let dsp = dsp_items(&text("dsp.rs.txt"));
     let seq = seq_items(&text("render/seq.rs.txt"));
@@ -48,22 +45,6 @@ fn link_harness(own: &Path) {
     println!("cargo:rustc-link-search=native={}", folder.display());
     println!("cargo:rustc-link-lib=static=harness");
     println!("cargo:rerun-if-changed={}", archive.display());
-}
-
-/// Copies each file, and writes `original.rs`, which declares them as modules. A copy is compiled
-/// as a file of its own, so its inner comments and attributes stay as they are.
-fn copy_original(source: &Path, out: &Path) {
-    let mut modules = String::new();
-    for (name, file) in FILES {
-        let from = source.join(file);
-        let to = out.join(format!("{name}.rs"));
-        if let Err(error) = fs::copy(&from, &to) {
-            panic!("{}: {error}; set TONO_SRC", from.display());
-        }
-        println!("cargo:rerun-if-changed={}", from.display());
-        modules += &format!("#[allow(dead_code)]\n#[path = {:?}]\npub mod {name};\n", to);
-    }
-    fs::write(out.join("original.rs"), modules).expect("OUT_DIR can be written");
 }
 
 fn dsp_items(text: &str) -> String {

@@ -2,10 +2,10 @@
 
 use crate::harness::*;
 use crate::kernels::*;
-use crate::original::det;
 use std::f64::consts::TAU;
 use std::hint::black_box;
 use std::time::Instant;
+use tono::det;
 
 /// How many arguments there are: few enough to stay in the cache.
 const ARGUMENTS: u64 = 4096;

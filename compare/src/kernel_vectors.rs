@@ -3,12 +3,12 @@
 //! in the second file.
 
 use crate::kernels::{decay, drive, frequency, phase, pitch};
-use crate::original::det;
 use crate::random::draw_at;
 use std::f64::consts::{FRAC_PI_4, LN_2, SQRT_2};
 use std::fs;
 use std::io;
 use std::path::Path;
+use tono::det;
 
 const FOLDER: &str = concat!(env!("CARGO_MANIFEST_DIR"), "/../crates/det_vectors");
 /// How many random arguments of each kernel: half of any pattern, half musical.

@@ -2,8 +2,8 @@
 
 use crate::engine::{compare, Cases};
 use crate::harness::*;
-use crate::original::det;
 use crate::random::{draw_at, unit};
+use tono::det;
 
 /// How many arguments of each kernel are tried where no number is given.
 pub const COUNT: u64 = 100_000_000;

@@ -12,7 +12,6 @@ mod helpers;
 mod kernel_bench;
 mod kernel_vectors;
 mod kernels;
-mod original;
 mod random;
 mod vectors;
 

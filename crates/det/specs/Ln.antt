@@ -1,5 +1,5 @@
 -- fn ln of det.rs: the natural logarithm.
-use Prim.Native.Nat.{ℕ, _*_, _/_, _^_}
+use Prim.Native.Nat.{_*_, _/_, _^_}
 use mathlib.Core.Bool.{true, cond}
 use lib.Bits.{bitAnd, bitOr}
 use lib.IntN.{ℤ, pos, _+ℤ_, _-ℤ_}

@@ -1,6 +1,6 @@
 -- render/osc.rs: `poly_blep` and `osc`, operation by operation; and the sawtooth that four voices write.
 use mathlib.Core.Bool.{cond}
-use lib.Ieee.{Float, binary32, ofBits, neg, lt, le}
+use lib.Ieee.{Float, neg, lt, le}
 use Rattle.ieee.specs.Binary32.{_⊕_, _⊖_, _⊗_, _⊘_}
 use Rattle.dsp.specs.Kernels.{TAU, sinOf}
 use Rattle.osc.specs.declared.Shape.{Shape}

@@ -1,0 +1,79 @@
+//! A part of render/seq.rs: its private functions under public names.
+use super::*;
+
+/// What a voice is set to, held by value.
+#[derive(Clone, Copy)]
+pub struct Voice {
+    pub wave: SeqWave,
+    pub duty: f32,
+    pub fm: FmKnobs,
+    pub pluck: PluckKnobs,
+    pub piano: PianoKnobs,
+    pub bass: BassKnobs,
+    pub swing: f32,
+    pub humanize: f32,
+    pub env: Adsr,
+}
+
+fn with_voice<R>(voice: &Voice, act: impl FnOnce(&SeqVoice) -> R) -> R {
+    let duty = Value::Const(voice.duty);
+    act(&SeqVoice {
+        wave: voice.wave,
+        duty: &duty,
+        fm: &voice.fm,
+        pluck: &voice.pluck,
+        piano: &voice.piano,
+        kit: KitStyle::Classic,
+        bass: &voice.bass,
+        sf2: "",
+        sf2_preset: 0,
+        sf2_bank: 0,
+        swing: voice.swing,
+        humanize: voice.humanize,
+        env: &voice.env,
+        tempo_map: &[],
+    })
+}
+
+/// One note over its pitch and duty by frame.
+pub fn note_signal(
+    voice: &Voice,
+    gain: f32,
+    f: &[f32],
+    d: &[f32],
+    sr: u32,
+    rng: &mut Rng,
+) -> Vec<f32> {
+    let note = SeqNote {
+        step: 0,
+        len: 0,
+        pitch: Value::Const(0.0),
+        gain,
+    };
+    with_voice(voice, |v| seq_note_signal(v, &note, f, d, sr, rng))
+}
+
+/// A whole score.
+pub fn render(
+    voice: &Voice,
+    bpm: f32,
+    steps_per_beat: u32,
+    notes: &[SeqNote],
+    n: usize,
+    sr: u32,
+    rng: &mut Rng,
+) -> Vec<f32> {
+    with_voice(voice, |v| {
+        render_seq(bpm, steps_per_beat, v, notes, n, sr, rng)
+    })
+}
+
+/// A note's start and grooved gain.
+pub fn groove(voice: &Voice, note: &SeqNote, step_dur: f32) -> (usize, f32) {
+    with_voice(voice, |v| groove_note(note, v, step_dur))
+}
+
+/// Humanize's timing and gain.
+pub fn draws(note: &SeqNote) -> (f32, f32) {
+    humanize_draws(note)
+}

@@ -1,3 +1,0 @@
-//! The original's files, unchanged: build.rs copies them.
-
-include!(concat!(env!("OUT_DIR"), "/original.rs"));
