@@ -10,9 +10,10 @@ use tono::det;
 /// How many arguments there are: few enough to stay in the cache.
 const ARGUMENTS: u64 = 4096;
 /// How many times the arguments are gone through in a round.
-const PASSES: usize = 100;
-/// How many rounds of each side, of which the fastest counts.
-const ROUNDS: usize = 15;
+const PASSES: usize = 5;
+/// How many rounds of each side, of which the fastest counts. A round is short, so that on a busy
+/// machine some are undisturbed.
+const ROUNDS: usize = 300;
 
 /// The original behind a call, since the library is behind one.
 mod plain {

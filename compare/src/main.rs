@@ -12,6 +12,7 @@ mod helpers;
 mod kernel_bench;
 mod kernel_vectors;
 mod kernels;
+mod libm;
 mod random;
 mod vectors;
 
@@ -26,6 +27,7 @@ const USAGE: &str =
        compare kernels all       the same, and all f32 patterns of sinf and expf
        compare kernel-bench      nanoseconds a call of the f32 kernels, library and original
        compare kernel-vectors    writes the replay files of crates/det_vectors
+       compare libm [SCALE]      where the original's f32 kernels and libm part
        compare groove-vectors    writes the replay files of crates/groove_vectors";
 
 fn main() -> ExitCode {
@@ -52,6 +54,17 @@ fn main() -> ExitCode {
             kernel_bench::run();
             ExitCode::SUCCESS
         }
+        ["libm"] => {
+            libm::run(1);
+            ExitCode::SUCCESS
+        }
+        ["libm", scale] => match scale.parse() {
+            Ok(scale) if scale > 0 => {
+                libm::run(scale);
+                ExitCode::SUCCESS
+            }
+            _ => usage(),
+        },
         ["kernel-vectors"] => written(kernel_vectors::run()),
         ["groove-vectors"] => written(groove_vectors::run()),
         _ => usage(),
