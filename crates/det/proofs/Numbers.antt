@@ -1,31 +1,10 @@
--- What is a NaN and what is none: of a value by its comparison with itself, of a product, of a bit pattern. Assumes nothing.
-use mathlib.Core.Path.{_≡_, refl, sym, ap, _∙_, subst}
-use mathlib.Core.Bool.{Bool, true, false, not, cond, _&&_, _||_, Bool·beq}
-use Prim.Native.Nat.{ℕ, zero, suc, _+_, _*_, _%_, _^_, _≤_}
-use lib.Dec.{T, eqb, ltb}
-use lib.Arith.{le→nltb}
+-- A product with a finite number other than 0 is a NaN only where the other factor is. Assumes nothing.
+use mathlib.Core.Bool.{Bool, true, false, not, cond}
+use Prim.Native.Nat.{ℕ, zero, suc, _+_, _*_, _^_}
+use lib.Dec.{T, ltb}
 use lib.IntN.{ℤ, pos}
-use lib.Ieee.{Float, nan, inf, fin, Format, binary64, prec, emax, low, unlike, up, down, odd, units, round, mul, eq, ne, ofBits, isNan, nanBits}
-use lib.Ieee.Bits.{nanBits-above}
-use borrow.Author.Tests.{eq-eqb}
+use lib.Ieee.{Float, nan, inf, fin, Format, binary64, prec, emax, low, unlike, up, down, odd, units, round, mul, ofBits, isNan}
 use Rattle.det.specs.Ln.{NEAR·2·64}
-
-same-sign : (s : Bool) → Bool·beq s s ≡ true
-same-sign true = refl
-same-sign false = refl
-
-level-self : (s : Bool) (a : ℕ) → not (eqb a a && (Bool·beq s s || eqb a 0)) ≡ false
-level-self s a = rw (eq-eqb a a refl, same-sign s)
-
--- `x != x` says that x is a NaN
-pub ne-self : (x : Float) → ne x x ≡ isNan x
-unfolding ne eq isNan
-ne-self nan = refl
-ne-self (inf s) = ap not (same-sign s)
-ne-self (fin s m e) = level-self s (m * up e * down e)
-
-pub no-nan : (x : Float) → ne x x ≡ false → T (not (isNan x))
-no-nan x h = subst (λ (b : Bool). T (not b)) (sym h ∙ ne-self x) tt
 
 either : (b : Bool) (x y : Float) → T (not (isNan x)) → T (not (isNan y)) → T (not (isNan (cond b x y)))
 either true x y p q = p
@@ -56,7 +35,3 @@ unfolding mul ofBits isNan
 scaled-number nan n = n
 scaled-number (inf s) n = tt
 scaled-number (fin s m e) n = finite s m e
-
--- a pattern that with its sign taken off is at most the infinity's
-pub plain-bits : (n : ℕ) → n % 2 ^ 63 ≤ 0x7ff0_0000_0000_0000 → T (not (nanBits binary64 n))
-plain-bits n h = subst (λ (b : Bool). T (not b)) (sym (nanBits-above binary64 n)) (le→nltb 0x7ff0_0000_0000_0000 (n % 2 ^ 63) h)

@@ -13,7 +13,7 @@ use mir.Syntax.{w64}
 use mir.Val.{SFits, toZ, ofZ}
 use mir.Facts.{toZ-pos}
 use Rattle.det.specs.Ln.{SQRT·2, foldExp}
-use Rattle.det.proofs.Numbers.{plain-bits}
+use Rattle.ieee.proofs.Nans.{plain-bits}
 use Rattle.det.proofs.Signed.{back}
 
 either-small : (b : Bool) (x y top : ℕ) → x < top → y < top → mag (cond b (negsuc x) (pos y)) < top
@@ -76,5 +76,5 @@ pub mantissa-number : (bits : ℕ) → T (not (nanBits binary64 (bitOr (bitAnd b
 mantissa-number bits =
     let d = bitAnd bits 0x000f_ffff_ffff_ffff in
     let h : d < 2 ^ 52 = mask-lt bits 52 in
-    plain-bits (bitOr d (1023 * 2 ^ 52))
+    plain-bits binary64 (bitOr d (1023 * 2 ^ 52))
     (subst (λ (n : ℕ). n % 2 ^ 63 ≤ 0x7ff0_0000_0000_0000) (sym (or-shifted-r 1023 52 d h)) (low-digits d h))

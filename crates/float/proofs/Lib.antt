@@ -1,4 +1,3 @@
-mod Nans
 mod Quotients
 mod Wholes
 mod Signs

@@ -1,3 +1,4 @@
+pub mod Nans
 pub mod Value
 pub mod Digits
 pub mod Fields

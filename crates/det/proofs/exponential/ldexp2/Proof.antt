@@ -12,7 +12,7 @@ use mir.Val.{toZ, ofZ}
 use Rattle.laws.proofs.If.{if-true, if-false}
 use Rattle.ieee.proofs.Rounding.{unit-is}
 use Rattle.det.specs.Exp.{ldexp2Of}
-use Rattle.det.proofs.Numbers.{plain-bits}
+use Rattle.ieee.proofs.Nans.{plain-bits}
 use Rattle.det.proofs.Signed.{back}
 use Rattle.det.proofs.Powers.{Lifted, subnormal, normal, sum-fits, sum-cast, sum-is, sum-below, shifted, shifted-low, digit-low}
 use Rattle.det.proofs.exponential.ldexp2.Statement.{statement}
@@ -58,7 +58,7 @@ shl-result : tie.Need-shl-result
 shl-result c = omega (arith, sum-below (low c) (lit< tt))
 
 float-from-bits-result : tie.Need-float-from-bits-result
-float-from-bits-result c = plain-bits _ (digit-low (place c) (sum-below (low c) (lit< tt)))
+float-from-bits-result c = plain-bits binary64 _ (digit-low (place c) (sum-below (low c) (lit< tt)))
 
 returns-3 : tie.Need-returns-3
 unfolding ldexp2Of
@@ -75,7 +75,7 @@ cast-result-2 : tie.Need-cast-result-2
 cast-result-2 c = sum-cast (high c) (lit< tt)
 
 float-from-bits-result-2 : tie.Need-float-from-bits-result-2
-float-from-bits-result-2 c = plain-bits _ (shifted-low (field c) (sum-below (high c) (lit< tt)))
+float-from-bits-result-2 c = plain-bits binary64 _ (shifted-low (field c) (sum-below (high c) (lit< tt)))
 
 returns-4 : tie.Need-returns-4
 unfolding ldexp2Of

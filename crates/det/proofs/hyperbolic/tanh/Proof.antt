@@ -3,7 +3,7 @@ use borrow.Author.Needs.{needs}
 use mathlib.Core.Path.{sym, _∙_}
 use Rattle.laws.proofs.If.{if-true, if-false}
 use Rattle.det.specs.Tanh.{tanhOf}
-use Rattle.det.proofs.Numbers.{ne-self}
+use Rattle.ieee.proofs.Nans.{ne-self}
 use Rattle.det.proofs.hyperbolic.tanh.Statement.{statement}
 use Rattle.det.proofs.hyperbolic.tanh.Tie as tie
 

@@ -4,7 +4,8 @@ use mathlib.Core.Path.{sym, ap, _∙_}
 use lib.Ieee.{neg}
 use Rattle.laws.proofs.If.{if-true, if-false}
 use Rattle.det.specs.Ln.{lnOf}
-use Rattle.det.proofs.Numbers.{ne-self, no-nan, scaled-number}
+use Rattle.ieee.proofs.Nans.{ne-self, no-nan}
+use Rattle.det.proofs.Numbers.{scaled-number}
 use Rattle.det.proofs.logarithm.ln.Statement.{statement}
 use Rattle.det.proofs.logarithm.ln.Tie as tie
 

@@ -2,7 +2,7 @@
 use borrow.Author.Needs.{needs}
 use mathlib.Core.Path.{_∙_}
 use lib.Ieee.{binary32}
-use Rattle.float.proofs.Nans.{nan-made, nan-bits, plain-bits}
+use Rattle.ieee.proofs.Nans.{nan-made, nan-bits, plain-bits}
 use Rattle.float.proofs.bits.f32_from_bits.Statement.{statement}
 use Rattle.float.proofs.bits.f32_from_bits.Tie as tie
 

@@ -6,7 +6,7 @@ use Prim.Native.Nat.{ℕ, _+_, _%_, _^_, _≤_}
 use native.Mathlib.Nat.{add-comm, zero-add}
 use native.Mathlib.Omega.{arith}
 use lib.Ieee.{binary32, ofBits}
-use Rattle.float.proofs.Nans.{plain-bits}
+use Rattle.ieee.proofs.Nans.{plain-bits}
 use Rattle.float.proofs.bits.signed_f32.Statement.{statement}
 use Rattle.float.proofs.bits.signed_f32.Tie as tie
 

@@ -3,7 +3,7 @@ use borrow.Author.Needs.{needs}
 use mathlib.Core.Path.{sym, ap, _∙_}
 use denote.Floats.{passes}
 use Rattle.ieee.specs.Narrow.{narrowOf}
-use Rattle.float.proofs.Nans.{is-nan, no-nan, nan-made}
+use Rattle.ieee.proofs.Nans.{is-nan, no-nan, nan-made}
 use Rattle.float.proofs.Normal.{sign-magnitude}
 use Rattle.float.proofs.convert.narrow.Statement.{statement}
 use Rattle.float.proofs.convert.narrow.Tie as tie

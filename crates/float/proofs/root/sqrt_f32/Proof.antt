@@ -9,7 +9,7 @@ use lib.Bits.{mask-lt}
 use lib.Ieee.{binary32, toBits, ofBits, div}
 use lib.Ieee.Bits.{toBits-lt}
 use denote.Floats.{passes}
-use Rattle.float.proofs.Nans.{no-nan, is-nan}
+use Rattle.ieee.proofs.Nans.{no-nan, is-nan}
 use Rattle.float.proofs.RootCases.{root-nan, root-zero, root-below, case-inf, case-low, case-mid, digits-pos}
 use Rattle.float.proofs.root.sqrt_f32.Statement.{statement}
 use Rattle.float.proofs.root.sqrt_f32.Tie as tie

@@ -1,6 +1,6 @@
 -- `vectors::patterns::f32_bits` is safe: past the test x is no NaN. Assumes nothing.
 use borrow.Author.Needs.{needs}
-use Rattle.vectors.proofs.Numbers.{no-nan}
+use Rattle.ieee.proofs.Nans.{no-nan}
 use Rattle.vectors.proofs.patterns.f32_bits.Statement.{statement}
 use Rattle.vectors.proofs.patterns.f32_bits.Tie as tie
 

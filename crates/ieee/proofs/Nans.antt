@@ -1,10 +1,11 @@
 -- What a test tells of a NaN, and which patterns are a NaN's. Assumes nothing.
-use mathlib.Core.Path.{_≡_, refl, sym, _∙_, subst}
+use mathlib.Core.Path.{_≡_, refl, sym, ap, _∙_, subst}
 use Prim.Native.Nat.{ℕ, _*_, _%_, _≤_, _<_}
-use mathlib.Core.Bool.{Bool, true, false, not}
-use lib.Dec.{T, ltb, lt→ltb}
+use mathlib.Core.Bool.{Bool, true, false, not, _&&_, _||_, Bool·beq}
+use lib.Dec.{T, ltb, eqb, lt→ltb}
+use borrow.Author.Tests.{eq-eqb}
 use lib.Arith.{le→nltb}
-use lib.Ieee.{Float, nan, inf, fin, Format, binary32, hid, ones, top, ne, div, isNan, nanBits, ofBits}
+use lib.Ieee.{Float, nan, inf, fin, Format, binary32, hid, ones, top, up, down, ne, eq, div, isNan, nanBits, ofBits}
 use lib.Ieee.Bits.{nanBits-above, nanBits-is}
 use lib.Ieee.Compare.{differs-from-itself}
 
@@ -37,3 +38,17 @@ nan-bits f n h = sym (the-nan (ofBits f n) (subst T (nanBits-above′ ∙ nanBit
     the-nan nan t = refl
     the-nan (inf s) t = absurd (unfold isNan in t)
     the-nan (fin s m e) t = absurd (unfold isNan in t)
+
+-- `x != x` is true of a NaN alone
+same-sign : (s : Bool) → Bool·beq s s ≡ true
+same-sign true = refl
+same-sign false = refl
+
+level-self : (s : Bool) (a : ℕ) → not (eqb a a && (Bool·beq s s || eqb a 0)) ≡ false
+level-self s a = rw (eq-eqb a a refl, same-sign s)
+
+pub ne-self : (x : Float) → ne x x ≡ isNan x
+unfolding ne eq isNan
+ne-self nan = refl
+ne-self (inf s) = ap not (same-sign s)
+ne-self (fin s m e) = level-self s (m * up e * down e)
