@@ -30,13 +30,13 @@ fmIndex knobs gain srf i =
     let t = seconds srf i in
     knobs .«fm_index» ⊗ (c0·4 ⊕ c0·6 ⊗ gain) ⊗ expOf (neg t ⊘ maxOf (knobs .«fm_strike») c0·001)
 
-unfoldable pub fmAt : FmKnobs → Float → (ℕ → Float) → Float → ℕ → FmState → FmOut
+unfoldable pub fmAt : (ℕ → Float) → FmKnobs → Float → Float → ℕ → FmState → FmOut
 unfolding fmIndex
-fmAt knobs gain f srf i s =
+fmAt f knobs gain srf i s =
     let dt = increment (f i) srf in
     let m = fmIndex knobs gain srf i ⊗ sinOf (TAU ⊗ s .mph) in
     record { sample = sinOf (TAU ⊗ s .cph ⊕ m); state = record { cph = wrapped (s .cph ⊕ dt); mph = wrapped (s .mph ⊕ dt ⊗ knobs .«fm_ratio») } }
 
-unfoldable pub fmFrames : FmKnobs → Float → (ℕ → Float) → Float → ℕ → List Float
+unfoldable pub fmFrames : (ℕ → Float) → FmKnobs → Float → Float → ℕ → List Float
 unfolding fmAt
-fmFrames knobs gain f srf n = samples (fmAt knobs gain f srf) (λ r. r .sample) (λ r. r .state) (record { cph = c0; mph = c0 }) n
+fmFrames f knobs gain srf n = samples (fmAt f knobs gain srf) (λ r. r .sample) (λ r. r .state) (record { cph = c0; mph = c0 }) n

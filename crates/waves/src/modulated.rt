@@ -28,17 +28,17 @@ fn fm_index_at(knobs: FmKnobs, gain: f32, srf: f32, i: usize) -> f32
 }
 
 fn fm_at(
-    knobs: FmKnobs,
-    gain: f32,
     pitch: Pitch,
     lane: &[f32],
+    knobs: FmKnobs,
+    gain: f32,
     srf: f32,
     i: usize,
     s: FmState,
 ) -> FmOut
     requires { ⌜ i ≤ 16777216 ⌝ }
     requires { ⌜ reaches pitch (length (now lane)) (i + 1) ⌝ }
-    ensures { λ r. ⌜ r ≡ fmAt knobs gain (pitchAt pitch (now (lane .entry))) srf i s ⌝ }
+    ensures { λ r. ⌜ r ≡ fmAt (pitchAt pitch (now (lane .entry))) knobs gain srf i s ⌝ }
 {
     let dt = osc::phase_step(pitch.at(lane, i), srf);
     let m = fm_index_at(knobs, gain, srf, i) * dsp::sin(dsp::TAU * s.mph);
@@ -52,15 +52,15 @@ fn fm_at(
 }
 
 // The voice reads the note's own gain.
-pub fn fm(knobs: FmKnobs, gain: f32, pitch: Pitch, lane: &[f32], srf: f32, out: &mut [f32])
+pub fn fm(pitch: Pitch, lane: &[f32], knobs: FmKnobs, gain: f32, srf: f32, out: &mut [f32])
     requires { ⌜ length (now out) ≤ 16777216 ⌝ }
     requires { ⌜ reaches pitch (length (now lane)) (length (now out)) ⌝ }
-    ensures { λ _. ⌜ now (out .exit) ≡ fmFrames knobs gain (pitchAt pitch (now (lane .entry))) srf (length (now (out .entry))) ⌝ }
+    ensures { λ _. ⌜ now (out .exit) ≡ fmFrames (pitchAt pitch (now (lane .entry))) knobs gain srf (length (now (out .entry))) ⌝ }
 {
     let mut s = FmState { cph: 0.0, mph: 0.0 };
     let mut i = 0usize;
     while i < out.len() {
-        let r = fm_at(knobs, gain, pitch, lane, srf, i, s);
+        let r = fm_at(pitch, lane, knobs, gain, srf, i, s);
         out[i] = r.sample;
         s = r.state;
         i += 1;

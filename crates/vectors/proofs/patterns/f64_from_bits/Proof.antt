@@ -1,12 +1,7 @@
 -- `vectors::patterns::f64_from_bits` is safe: a pattern that with the sign taken off is at most the infinity's is no NaN's. Assumes nothing.
 use borrow.Author.Needs.{needs}
-use mathlib.Core.Path.{sym, subst}
-use mathlib.Core.Bool.{Bool, not}
-use Prim.Native.Nat.{_%_, _^_}
-use lib.Dec.{T}
-use lib.Arith.{le→nltb}
 use lib.Ieee.{binary64}
-use lib.Ieee.Bits.{nanBits-above}
+use Rattle.ieee.proofs.Nans.{plain-bits}
 use Rattle.vectors.proofs.patterns.f64_from_bits.Statement.{statement}
 use Rattle.vectors.proofs.patterns.f64_from_bits.Tie as tie
 
@@ -14,9 +9,7 @@ returns : tie.Need-returns
 returns c = search needs
 
 float-from-bits-result : tie.Need-float-from-bits-result
-float-from-bits-result c =
-    let n = c .before .args .pattern in
-    subst (λ (b : Bool). T (not b)) (sym (nanBits-above binary64 n)) (le→nltb 0x7ff0_0000_0000_0000 (n % 2 ^ 63) (c .if1 .left))
+float-from-bits-result c = plain-bits binary64 (c .before .args .pattern) (c .if1 .left)
 
 returns-2 : tie.Need-returns-2
 returns-2 c = search needs

@@ -11,10 +11,10 @@ use Rattle.waves.proofs.modulated.fm.Statement.{statement}
 use Rattle.waves.proofs.modulated.fm.Tie as tie
 
 abbrev Inv-loop : tie.InvT-loop
-Inv-loop knobs gain pitch lane srf out₀ s₀ i₀ out s i = Filled (fmAt knobs gain (pitchAt pitch lane) srf) (λ r. r .sample) (λ r. r .state) s₀ out₀ i out s
+Inv-loop pitch lane knobs gain srf out₀ s₀ i₀ out s i = Filled (fmAt (pitchAt pitch lane) knobs gain srf) (λ r. r .sample) (λ r. r .state) s₀ out₀ i out s
 
 abbrev μ-loop : tie.MeasureT-loop
-μ-loop knobs gain pitch lane srf out₀ s₀ i₀ out s i = length out₀ - i
+μ-loop pitch lane knobs gain srf out₀ s₀ i₀ out s i = length out₀ - i
 
 loop-holds : tie.Need-loop-holds Inv-loop μ-loop
 loop-holds c = filled-none
