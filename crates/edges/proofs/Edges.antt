@@ -5,6 +5,7 @@ use Prim.Native.Nat.{ℕ, _+_, _^_}
 use mathlib.Core.Bool.{true, false}
 use lib.IntN.{pos, negsuc}
 use lib.Ieee.{Float, fin, binary32, ofBits, ofInt, toUnsigned, round, sum, odd, size, add, sub, neg, mul, div, lt, le}
+use Rattle.ieee.specs.Numbers.{c0, c1}
 use Rattle.ieee.specs.Narrow.{narrowOf}
 use Rattle.ieee.specs.Whole.{whole, roundOf}
 use Rattle.dsp.specs.Draw.{biOf}
@@ -13,7 +14,6 @@ use Rattle.dsl.specs.declared.wave.SeqWave.the-variants.{Piano}
 use Rattle.dsl.specs.declared.pitch.Pitch.the-variants.{Const}
 use Rattle.dsl.specs.declared.note.SeqNote.{SeqNote}
 use Rattle.dsl.specs.Sized.{c65536}
-use Rattle.groove.specs.Number.{c0, c1}
 use Rattle.groove.specs.Timing.{stepDur, swingDelay, humanOf, grooveOf}
 use Rattle.groove.specs.Length.{lengthOf}
 use Rattle.groove.specs.Period.{periodOf}

@@ -6,7 +6,7 @@ use lib.Dec.{lit≤}
 use lib.Ieee.{binary32, ofInt}
 use lib.Ieee.Exact.{HasValue}
 use lib.Ieee.Back.{round-whole}
-use Rattle.groove.specs.Number.{f32}
+use Rattle.ieee.specs.Numbers.{f32}
 use Rattle.dsl.specs.Domain.{Rate, Frames}
 
 pub f32-value : (n : ℕ) → n ≤ 2 ^ 24 → HasValue (f32 n) false n 1

@@ -11,6 +11,7 @@ use borrow.Author.Tests.{lt-ltb}
 use lib.Ieee.{Float, nan, inf, fin, Format, binary32, div, ofBits, toUnsigned}
 use lib.Ieee.Exact.{HasValue}
 use lib.Ieee.Back.{round-whole}
+use Rattle.ieee.specs.Numbers.{c2, c20, f32}
 use Rattle.ieee.specs.Binary32.{_⊘_}
 use Rattle.ieee.specs.Order.{maxOf, clampOf}
 use Rattle.ieee.specs.Whole.{whole, roundOf}
@@ -20,7 +21,6 @@ use Rattle.ieee.proofs.Bounds.{AtMost}
 use Rattle.ieee.proofs.Cut.{rounded-at-most, cut-at-most}
 use Rattle.ieee.proofs.Range.{Between, clamp-between, div-at-most}
 use Rattle.dsl.specs.Domain.{Rate}
-use Rattle.groove.specs.Number.{f32, c2, c20}
 use Rattle.groove.specs.Period.{periodOf}
 use Rattle.groove.proofs.Exact.{rate-value}
 

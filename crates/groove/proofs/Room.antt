@@ -4,11 +4,11 @@ use Prim.Native.Nat.{ℕ, _+_, _^_, _≤_, _<_, max}
 use native.Mathlib.Omega.{arith}
 use mathlib.Core.Bool.{Bool, true, false, cond}
 use lib.Ieee.{Float, lt, toUnsigned}
+use Rattle.ieee.specs.Numbers.{f32}
 use Rattle.ieee.specs.Binary32.{_⊗_}
 use Rattle.ieee.specs.Order.{minOf}
 use Rattle.dsl.specs.declared.wave.SeqWave.{SeqWave}
 use Rattle.dsl.specs.declared.wave.SeqWave.the-variants.{Square, Triangle, Sawtooth, Sine, Noise, Fm, Pluck, Piano, Epiano, Organ, Strings, Brass, Flute, Mallet, Bell, Bass, Cowbell}
-use Rattle.groove.specs.Number.{f32}
 use Rattle.dsl.specs.Domain.{Rate, Frames}
 use Rattle.groove.specs.Length.{lengthOf, soundedOf}
 use Rattle.groove.specs.Draws.{drawsOf}

@@ -12,6 +12,7 @@ use lib.IntN.{pos}
 use lib.Ieee.Fits.{and-l}
 use lib.Ieee.Exact.{HasValue, round-exact}
 use lib.Ieee.Back.{round-whole}
+use Rattle.ieee.specs.Numbers.{c0, c0·12, c0·5, c1, f32}
 use Rattle.ieee.specs.Binary32.{_⊕_, _⊗_}
 use Rattle.ieee.proofs.Bounds.{le-at-most}
 use Rattle.ieee.proofs.Range.{Between}
@@ -23,7 +24,6 @@ use Rattle.dsp.proofs.Draws.{bi-low, bi-high}
 use Rattle.dsl.specs.Domain.{Frames}
 use Rattle.dsl.specs.declared.note.SeqNote.{SeqNote}
 use Rattle.groove.specs.declared.timing.Human.{Human}
-use Rattle.groove.specs.Number.{f32, c0, c0·12, c0·5, c1}
 use Rattle.groove.specs.Humanize.{seedOf, humanizeDraws}
 use Rattle.groove.specs.Timing.{swingDelay, humanOf, grooveOf}
 use Rattle.groove.specs.Length.{lengthOf}

@@ -11,13 +11,13 @@ use borrow.Author.Tests.{ltb-true, ltb-false}
 use lib.Pow.{pow-pos}
 use lib.Ieee.{binary32, round, odd, size, ofBits}
 use lib.Ieee.Exact.{HasValue}
+use Rattle.ieee.specs.Numbers.{c0·006, f32}
 use Rattle.ieee.specs.Binary32.{_⊘_}
 use Rattle.ieee.proofs.Value.{same-test}
 use Rattle.ieee.proofs.Exactly.{round-value}
 use Rattle.ieee.proofs.Bounds.{at-most-lt, at-least-lt}
 use Rattle.ieee.proofs.Range.{div-at-most, div-at-least}
 use Rattle.dsl.specs.Domain.{Rate}
-use Rattle.groove.specs.Number.{f32, c0·006}
 use Rattle.groove.specs.Draws.{thumps, thumpFrames, count}
 use Rattle.groove.proofs.Exact.{f32-value, rate-value, rate-pos}
 

@@ -2,10 +2,10 @@
 use Prim.Native.Nat.{ℕ, zero, suc, _+_, _*_, _/_, min}
 use mathlib.Core.Bool.{Bool, cond}
 use lib.Ieee.{Float, lt}
+use Rattle.ieee.specs.Numbers.{c0·006, f32}
 use Rattle.ieee.specs.Binary32.{_⊘_}
 use Rattle.dsl.specs.declared.wave.SeqWave.{SeqWave}
 use Rattle.dsl.specs.declared.wave.SeqWave.the-variants.{Square, Triangle, Sawtooth, Sine, Noise, Fm, Pluck, Piano, Epiano, Organ, Strings, Brass, Flute, Mallet, Bell, Bass, Cowbell}
-use Rattle.groove.specs.Number.{f32, c0·006}
 use Rattle.groove.specs.Period.{periodOf}
 
 -- "Piano draws while frame / rate < 0.006 in f32"

@@ -3,9 +3,9 @@ use Prim.Native.Nat.{ℕ, _-_, min, max}
 use mathlib.Core.Bool.{Bool}
 use lib.Dec.{leb}
 use lib.Ieee.{Float, toUnsigned}
+use Rattle.ieee.specs.Numbers.{f32}
 use Rattle.ieee.specs.Binary32.{_⊗_}
 use Rattle.ieee.specs.Order.{minOf}
-use Rattle.groove.specs.Number.{f32}
 
 -- "Length = (len × samples per step, at most n) cut, at least 1."
 unfoldable pub lengthOf : ℕ → Float → ℕ → ℕ

@@ -3,10 +3,11 @@ use Prim.Native.Nat.{ℕ, _%_}
 use mathlib.Core.Bool.{cond}
 use lib.Dec.{eqb}
 use lib.Ieee.{Float, lt, toUnsigned}
+use Rattle.ieee.specs.Numbers.{c0, c0·12, c0·15, c0·5, c1, f32}
 use Rattle.ieee.specs.Binary32.{_⊕_, _⊗_, _⊘_}
 use Rattle.ieee.specs.Order.{maxOf, clampOf}
 use Rattle.dsl.specs.declared.note.SeqNote.{SeqNote}
-use Rattle.groove.specs.Number.{f32, c0, c0·12, c0·15, c0·5, c1, c60}
+use Rattle.groove.specs.Number.{c60}
 use Rattle.groove.specs.Humanize.{humanizeDraws}
 use Rattle.groove.specs.declared.timing.Human.{Human}
 use Rattle.groove.specs.declared.timing.Groove.{Groove}

@@ -6,3 +6,4 @@ pub mod Root
 pub mod Nearest
 pub mod Binary32
 pub mod Binary64
+pub mod Numbers

@@ -1,8 +1,8 @@
 -- `cowbell_sample` of render/kit.rs, operation by operation.
 use lib.Ieee.{Float, binary32, ofBits, neg}
+use Rattle.ieee.specs.Numbers.{c0·5}
 use Rattle.ieee.specs.Binary32.{_⊕_, _⊗_, _⊘_}
 use Rattle.dsp.specs.Kernels.{TAU, sinOf, expOf, tanhOf}
-use Rattle.osc.specs.Constants.{c0·5}
 
 -- 2.5
 abbrev pub c2·5 : Float

@@ -1,3 +1,2 @@
-pub mod Constants
 pub mod Osc
 pub mod Phase

@@ -3,13 +3,13 @@ use mathlib.Core.Path.{_≡_, sym, ap, _∙_}
 use Prim.Native.Nat.{ℕ, zero, suc, _<_, _^_}
 use native.Mathlib.Numerals.{add-one}
 use lib.Ieee.{Float}
+use Rattle.ieee.specs.Numbers.{c0}
 use Rattle.laws.specs.Run.{stateAt}
 use Rattle.laws.proofs.Same.{samples-same}
 use Rattle.dsl.specs.declared.knobs.FmKnobs.{FmKnobs}
 use Rattle.dsp.specs.SplitMix64.{advance, stateAfter}
 use Rattle.dsp.specs.declared.rng.Rng.{Rng}
 use Rattle.dsp.proofs.States.{state-none, state-next}
-use Rattle.osc.specs.Constants.{c0}
 use Rattle.waves.specs.Plain.{sawtoothAt, sawtoothFrames, sineAt, sineFrames}
 use Rattle.waves.specs.Pulse.{squareAt, squareFrames, triangleAt, triangleFrames}
 use Rattle.waves.specs.Fm.{fmAt, fmFrames}

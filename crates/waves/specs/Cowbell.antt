@@ -1,15 +1,12 @@
 -- `SeqWave::Cowbell` of `seq_note_signal`. `f` is the pitch by frame, `srf` the rate. There is no state: it is 0 throughout.
 use Prim.Native.Nat.{ℕ}
 use mathlib.Core.List.{List}
-use lib.Ieee.{Float, binary32, ofBits}
+use lib.Ieee.{Float}
+use Rattle.ieee.specs.Numbers.{c20}
 use Rattle.laws.specs.Run.{samples}
 use Rattle.ieee.specs.Order.{maxOf}
 use Rattle.kit.specs.Cowbell.{cowbellOf}
 use Rattle.osc.specs.Phase.{seconds}
-
--- 20.0
-abbrev pub c20 : Float
-c20 = ofBits binary32 0x41a00000
 
 unfoldable pub cowbellAt : (ℕ → Float) → Float → ℕ → Float
 cowbellAt f srf i = cowbellOf (maxOf (f i) c20) (seconds srf i)

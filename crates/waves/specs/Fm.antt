@@ -1,28 +1,16 @@
 -- `SeqWave::Fm` of `seq_note_signal`. `f` is the pitch by frame, `srf` the rate, `gain` the note's own gain.
 use Prim.Native.Nat.{ℕ}
 use mathlib.Core.List.{List}
-use lib.Ieee.{Float, binary32, ofBits, neg}
+use lib.Ieee.{Float, neg}
+use Rattle.ieee.specs.Numbers.{c0, c0·001, c0·4, c0·6}
 use Rattle.laws.specs.Run.{samples}
 use Rattle.ieee.specs.Binary32.{_⊕_, _⊗_, _⊘_}
 use Rattle.ieee.specs.Order.{maxOf}
 use Rattle.dsl.specs.declared.knobs.FmKnobs.{FmKnobs}
 use Rattle.dsp.specs.Kernels.{TAU, sinOf, expOf}
-use Rattle.osc.specs.Constants.{c0}
 use Rattle.osc.specs.Phase.{wrapped, increment, seconds}
 use Rattle.waves.specs.declared.modulated.FmState.{FmState}
 use Rattle.waves.specs.declared.modulated.FmOut.{FmOut}
-
--- 0.4
-abbrev pub c0·4 : Float
-c0·4 = ofBits binary32 0x3ecccccd
-
--- 0.6
-abbrev pub c0·6 : Float
-c0·6 = ofBits binary32 0x3f19999a
-
--- 1e-3
-abbrev pub c0·001 : Float
-c0·001 = ofBits binary32 0x3a83126f
 
 -- idx
 unfoldable pub fmIndex : FmKnobs → Float → Float → ℕ → Float

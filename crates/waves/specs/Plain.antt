@@ -2,9 +2,9 @@
 use Prim.Native.Nat.{ℕ}
 use mathlib.Core.List.{List}
 use lib.Ieee.{Float}
+use Rattle.ieee.specs.Numbers.{c0}
 use Rattle.laws.specs.Run.{samples}
 use Rattle.ieee.specs.Binary32.{_⊕_}
-use Rattle.osc.specs.Constants.{c0}
 use Rattle.osc.specs.Osc.{sawOf, oscOf}
 use Rattle.osc.specs.Phase.{wrapped, increment}
 use Rattle.osc.specs.declared.Shape.the-variants.{Sine}

@@ -3,20 +3,16 @@ use Prim.Native.Nat.{ℕ}
 use mathlib.Core.Bool.{cond}
 use mathlib.Core.List.{List}
 use lib.Ieee.{Float, binary32, ofBits, neg, lt}
+use Rattle.ieee.specs.Numbers.{c0, c0·01, c0·5, c1, c4}
 use Rattle.laws.specs.Run.{samples}
 use Rattle.ieee.specs.Binary32.{_⊕_, _⊖_, _⊗_}
 use Rattle.ieee.specs.Order.{clampOf}
 use Rattle.ieee.specs.Whole.{fractOf}
-use Rattle.osc.specs.Constants.{c0, c0·5, c1, c4}
 use Rattle.osc.specs.Osc.{polyBlep}
 use Rattle.osc.specs.Phase.{wrapped, increment}
 use Rattle.waves.specs.declared.plain.PhaseOut.{PhaseOut}
 use Rattle.waves.specs.declared.pulse.TriangleState.{TriangleState}
 use Rattle.waves.specs.declared.pulse.TriangleOut.{TriangleOut}
-
--- 0.01
-abbrev pub c0·01 : Float
-c0·01 = ofBits binary32 0x3c23d70a
 
 -- 0.99
 abbrev pub c0·99 : Float

@@ -5,9 +5,9 @@ use native.Mathlib.Omega.{arith}
 use Prim.Native.Nat.{ℕ, _<_, _≤_, max}
 use lib.Dec.{le→leb}
 use lib.Ieee.{inFloat, toUnsigned}
+use Rattle.ieee.specs.Numbers.{f32}
 use Rattle.ieee.specs.Binary32.{_⊗_}
 use Rattle.ieee.specs.Order.{minOf}
-use Rattle.groove.specs.Number.{f32}
 use Rattle.groove.specs.Length.{lengthOf}
 use Rattle.groove.proofs.length.note_len.Statement.{statement}
 use Rattle.groove.proofs.length.note_len.Tie as tie

@@ -4,10 +4,10 @@ use mathlib.Core.Path.{_≡_, ap, _∙_}
 use native.Mathlib.Omega.{arith}
 use Prim.Native.Nat.{ℕ, _<_, _≤_, max}
 use lib.Ieee.{toUnsigned}
+use Rattle.ieee.specs.Numbers.{c2, c20, f32}
 use Rattle.ieee.specs.Binary32.{_⊘_}
 use Rattle.ieee.specs.Order.{clampOf}
 use Rattle.ieee.specs.Whole.{roundOf}
-use Rattle.groove.specs.Number.{f32, c2, c20}
 use Rattle.groove.specs.Period.{periodOf}
 use Rattle.groove.proofs.Periods.{highest-is}
 use Rattle.groove.proofs.period.string_period.Statement.{statement}

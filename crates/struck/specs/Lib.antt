@@ -1,0 +1,4 @@
+pub mod Epiano
+pub mod Mallet
+pub mod Bell
+pub mod Bass

@@ -1,0 +1,4 @@
+pub mod Organ
+pub mod Strings
+pub mod Brass
+pub mod Flute
