@@ -30,3 +30,53 @@ unsafe extern "C" {
     pub safe fn h_tanhf(x: f32) -> f32;
     pub safe fn h_powff(x: f32, y: f32) -> f32;
 }
+
+mod raw {
+    unsafe extern "C" {
+        pub fn h_voice(
+            wave: u32,
+            knobs: *const f32,
+            knobs_len: usize,
+            gain: f32,
+            srf: f32,
+            state: u64,
+            pitch: *const f32,
+            pitch_len: usize,
+            duty: *const f32,
+            duty_len: usize,
+            out: *mut f32,
+            out_len: usize,
+        ) -> u64;
+    }
+}
+
+/// Fills `out` with a voice's frames, and answers the generator's state after them.
+#[allow(clippy::too_many_arguments)]
+pub fn h_voice(
+    wave: u32,
+    knobs: &[f32],
+    gain: f32,
+    srf: f32,
+    state: u64,
+    pitch: &[f32],
+    duty: &[f32],
+    out: &mut [f32],
+) -> u64 {
+    // Each pointer and length are those of a slice, which is what the function takes.
+    unsafe {
+        raw::h_voice(
+            wave,
+            knobs.as_ptr(),
+            knobs.len(),
+            gain,
+            srf,
+            state,
+            pitch.as_ptr(),
+            pitch.len(),
+            duty.as_ptr(),
+            duty.len(),
+            out.as_mut_ptr(),
+            out.len(),
+        )
+    }
+}

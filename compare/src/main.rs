@@ -15,6 +15,8 @@ mod kernels;
 mod libm;
 mod random;
 mod vectors;
+mod voice_bench;
+mod voices;
 
 use std::env;
 use std::process::ExitCode;
@@ -28,6 +30,8 @@ const USAGE: &str =
        compare kernel-bench      nanoseconds a call of the f32 kernels, library and original
        compare kernel-vectors    writes the replay files of crates/det_vectors
        compare libm [SCALE]      where the original's f32 kernels and libm part
+       compare voices [COUNT]    COUNT notes of each wave, 10^5 by default
+       compare voice-bench       nanoseconds a sample of each wave, library and original
        compare groove-vectors    writes the replay files of crates/groove_vectors";
 
 fn main() -> ExitCode {
@@ -52,6 +56,15 @@ fn main() -> ExitCode {
         },
         ["kernel-bench"] => {
             kernel_bench::run();
+            ExitCode::SUCCESS
+        }
+        ["voices"] => status(voices::run(voices::COUNT)),
+        ["voices", count] => match count.parse() {
+            Ok(count) => status(voices::run(count)),
+            Err(_) => usage(),
+        },
+        ["voice-bench"] => {
+            voice_bench::run();
             ExitCode::SUCCESS
         }
         ["libm"] => {

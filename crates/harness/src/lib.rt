@@ -2,3 +2,4 @@
 // is the equation of the function that is called. No customer links this.
 mod helpers; // helpers.rt: the float helpers and the generator
 mod kernels; // kernels.rt: the kernels of det
+mod voices; // voices.rt: the voices
