@@ -170,12 +170,11 @@ impl Note {
     /// The library's samples and the draw that its generator would make next.
     pub fn ours(&self, place: u32) -> (Vec<f32>, u64) {
         let mut out = vec![f32::from_bits(0x7f12_3456); self.pitch.len()];
-        let srf = self.rate as f32;
         let after = h_voice(
             place,
             &self.knobs,
             self.gain,
-            srf,
+            self.rate,
             self.state,
             &self.pitch,
             &self.duty,

@@ -3,3 +3,5 @@
 mod helpers; // helpers.rt: the float helpers and the generator
 mod kernels; // kernels.rt: the kernels of det
 mod voices; // voices.rt: the voices
+
+pub use voices::h_voice;

@@ -63,6 +63,10 @@ c0·45 = ofBits binary32 0x3ee66666
 abbrev pub c0·5 : Float
 c0·5 = ofBits binary32 0x3f000000
 
+-- 0.55
+abbrev pub c0·55 : Float
+c0·55 = ofBits binary32 0x3f0ccccd
+
 -- 0.6
 abbrev pub c0·6 : Float
 c0·6 = ofBits binary32 0x3f19999a
@@ -90,6 +94,10 @@ c3 = ofBits binary32 0x40400000
 -- 4
 abbrev pub c4 : Float
 c4 = ofBits binary32 0x40800000
+
+-- 10
+abbrev pub c10 : Float
+c10 = ofBits binary32 0x41200000
 
 -- 20
 abbrev pub c20 : Float

@@ -5,3 +5,5 @@ pub mod Update
 pub mod Iterate
 pub mod Seek
 pub mod Parts
+pub mod Fold
+pub mod Sweep

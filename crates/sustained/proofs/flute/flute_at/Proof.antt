@@ -34,7 +34,7 @@ sin-requires-2 c κs = search needs
 
 returns : tie.Need-returns
 unfolding fluteAt
-returns c = rw (c .sin2 .ensures, c .before .before .before .bi .ensures .0, ap rngAt (c .before .before .before .bi .ensures .1), c .before .before .before .before .before .wrap2 .ensures, c .before .before .before .before .before .before .before .max-f32 .ensures, c .before .before .before .before .before .before .before .before .at .ensures, c .before .before .before .before .before .before .before .before .before .wrap .ensures, c .before .before .before .before .before .before .before .before .before .before .before .sin .ensures, c .before .before .before .before .before .before .before .before .before .before .before .before .before .exp .ensures, c .before .before .before .before .before .before .before .before .before .before .before .before .before .before .frame-time .ensures)
+returns c = rw (c .sin2 .ensures, c .before .before .before .bi .ensures .0, ← ap rngAt (c .before .before .before .bi .ensures .1), c .before .before .before .before .before .wrap2 .ensures, c .before .before .before .before .before .before .before .max-f32 .ensures, c .before .before .before .before .before .before .before .before .at .ensures, c .before .before .before .before .before .before .before .before .before .wrap .ensures, c .before .before .before .before .before .before .before .before .before .before .before .sin .ensures, c .before .before .before .before .before .before .before .before .before .before .before .before .before .exp .ensures, c .before .before .before .before .before .before .before .before .before .before .before .before .before .before .frame-time .ensures)
 
 pub flute-at-spec : {M : Type 1} → statement M
 flute-at-spec =

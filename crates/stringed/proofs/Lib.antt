@@ -1,0 +1,4 @@
+pub mod Noise
+pub mod Lent
+pub mod Built
+pub mod Pianos

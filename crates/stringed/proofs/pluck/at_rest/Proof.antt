@@ -1,0 +1,12 @@
+-- `stringed::pluck::at_rest` meets its contract. Assumes nothing.
+use mathlib.Core.Path.{refl}
+use Rattle.stringed.specs.Pluck.{atRest}
+use Rattle.stringed.proofs.pluck.at_rest.Statement.{statement}
+use Rattle.stringed.proofs.pluck.at_rest.Tie as tie
+
+returns : tie.Need-returns
+unfolding atRest
+returns c = refl
+
+pub at-rest-spec : {M : Type 1} → statement M
+at-rest-spec = tie.close (tie.spec returns)

@@ -1,0 +1,8 @@
+pub mod Constants
+pub mod Noise
+pub mod Guitar
+pub mod Pluck
+pub mod Hammer
+pub mod Wires
+pub mod Thumps
+pub mod Piano

@@ -1,0 +1,92 @@
+// Replays notes of every wave whose answers the original gave. A line of standard input names a
+// wave and gives rate, gain, state, frames, the pitches and duties of the first frames, of which the
+// last goes on, and the knobs; the samples and the state after them are appended.
+use libc::STDIN_FILENO;
+
+const FRAMES: usize = 128;
+
+// `count` values from field `from` on, the last of them in the places after it.
+fn values(line: &[u8], from: usize, count: usize) -> [f32; 128] {
+    let mut out = [0.0f32; 128];
+    let mut i = 0;
+    while i < FRAMES {
+        let k = if i < count { i } else { count - 1 };
+        out[i] = vectors::f32_field(line, from + k);
+        i += 1;
+    }
+    out
+}
+
+fn knobs(line: &[u8], from: usize) -> [f32; 22] {
+    let mut out = [0.0f32; 22];
+    let mut i = 0;
+    while i < 22 {
+        out[i] = vectors::f32_field(line, from + i);
+        i += 1;
+    }
+    out
+}
+
+fn print_samples(out: &[f32]) {
+    let mut i = 0;
+    while i < out.len() {
+        vectors::print_f32(out[i]);
+        i += 1;
+    }
+}
+
+fn play(line: &[u8], frames: usize, count: usize) {
+    let wave = (vectors::u64_field(line, 1) % 0x1_0000_0000) as u32;
+    let rate = (vectors::u64_field(line, 2) % 0x1_0000_0000) as u32;
+    let gain = vectors::f32_field(line, 3);
+    let state = vectors::u64_field(line, 4);
+    let pitch = values(line, 7, count);
+    let duty = values(line, 7 + count, count);
+    let set = knobs(line, 7 + 2 * count);
+    let mut out = [0.0f32; 128];
+    let after = harness::h_voice(
+        wave,
+        &set,
+        gain,
+        rate,
+        state,
+        &pitch,
+        &duty,
+        &mut out[..frames],
+    );
+    print_samples(&out[..frames]);
+    vectors::print_u64(after);
+}
+
+// A line whose numbers are out of range gets no answer.
+fn replay_line(line: &[u8]) {
+    vectors::print_text(line);
+    let frames = vectors::u64_field(line, 5);
+    let count = vectors::u64_field(line, 6);
+    if frames <= 128 {
+        if 0 < count {
+            if count <= 128 {
+                play(line, frames as usize, count as usize);
+            }
+        }
+    }
+    vectors::print_text(b"\n");
+}
+
+fn replay(text: &[u8]) {
+    let mut at = 0;
+    while at < text.len() {
+        let end = vectors::line_end(text, at);
+        replay_line(&text[at..end]);
+        if end == text.len() {
+            return;
+        }
+        at = end + 1;
+    }
+}
+
+fn main() {
+    let mut text = io::large_buffer();
+    let n = io::read_full(STDIN_FILENO, &mut text);
+    replay(&text[..n]);
+}
