@@ -16,6 +16,7 @@ mod libm;
 mod random;
 mod vectors;
 mod voice_bench;
+mod voice_vectors;
 mod voices;
 
 use std::env;
@@ -32,7 +33,8 @@ const USAGE: &str =
        compare libm [SCALE]      where the original's f32 kernels and libm part
        compare voices [COUNT]    COUNT notes of each wave, 10^5 by default
        compare voice-bench       nanoseconds a sample of each wave, library and original
-       compare groove-vectors    writes the replay files of crates/groove_vectors";
+       compare groove-vectors    writes the replay files of crates/groove_vectors
+       compare voice-vectors     writes the replay files of crates/voice_vectors";
 
 fn main() -> ExitCode {
     let words: Vec<String> = env::args().skip(1).collect();
@@ -79,6 +81,7 @@ fn main() -> ExitCode {
             _ => usage(),
         },
         ["kernel-vectors"] => written(kernel_vectors::run()),
+        ["voice-vectors"] => written(voice_vectors::run()),
         ["groove-vectors"] => written(groove_vectors::run()),
         _ => usage(),
     }

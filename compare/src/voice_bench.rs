@@ -1,5 +1,6 @@
 //! Nanoseconds a sample of each wave, library and original.
 
+use crate::voice_vectors::USUAL;
 use crate::voices::{Note, WAVES};
 use std::hint::black_box;
 use std::time::Instant;
@@ -12,18 +13,10 @@ const ROUNDS: usize = 60;
 
 /// An ordinary note: middle A, the source's usual knobs.
 fn ordinary() -> Note {
-    let mut knobs = [0.0; 22];
-    let usual = [
-        1.0, 2.0, 0.3, // fm
-        0.996, 0.0, 0.0, 0.0, // pluck
-        1.0, 0.125, 1.0, 1.0, 1.0, // piano
-        300.0, 900.0, 1500.0, 0.12, 0.0, 0.9, 0.5, 1.0, 0.0, 1.2, // bass
-    ];
-    knobs.copy_from_slice(&usual);
     Note {
         rate: 48000,
         gain: 0.8,
-        knobs,
+        knobs: USUAL,
         state: 1,
         pitch: vec![440.0; FRAMES],
         duty: vec![0.5; FRAMES],

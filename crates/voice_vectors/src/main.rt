@@ -1,23 +1,33 @@
 // Replays notes of every wave whose answers the original gave. A line of standard input names a
 // wave and gives rate, gain, state, frames, the pitches and duties of the first frames, of which the
 // last goes on, and the knobs; the samples and the state after them are appended.
+ghost use Prim.Native.Nat.{_≤_, _<_};
 use libc::STDIN_FILENO;
 
 const FRAMES: usize = 128;
 
+fn at_most(i: usize, last: usize) -> usize
+    ensures { λ r. ⌜ r ≤ last ⌝ }
+{
+    if i < last { i } else { last }
+}
+
 // `count` values from field `from` on, the last of them in the places after it.
-fn values(line: &[u8], from: usize, count: usize) -> [f32; 128] {
+fn values(line: &[u8], from: usize, count: usize) -> [f32; 128]
+    requires { ⌜ (0 < count) × (count ≤ 128) × (from ≤ 1024) ⌝ }
+{
     let mut out = [0.0f32; 128];
     let mut i = 0;
     while i < FRAMES {
-        let k = if i < count { i } else { count - 1 };
-        out[i] = vectors::f32_field(line, from + k);
+        out[i] = vectors::f32_field(line, from + at_most(i, count - 1));
         i += 1;
     }
     out
 }
 
-fn knobs(line: &[u8], from: usize) -> [f32; 22] {
+fn knobs(line: &[u8], from: usize) -> [f32; 22]
+    requires { ⌜ from ≤ 1024 ⌝ }
+{
     let mut out = [0.0f32; 22];
     let mut i = 0;
     while i < 22 {
@@ -27,15 +37,19 @@ fn knobs(line: &[u8], from: usize) -> [f32; 22] {
     out
 }
 
-fn print_samples(out: &[f32]) {
+fn print_samples(out: &[f32; 128], frames: usize)
+    requires { ⌜ frames ≤ 128 ⌝ }
+{
     let mut i = 0;
-    while i < out.len() {
+    while i < frames {
         vectors::print_f32(out[i]);
         i += 1;
     }
 }
 
-fn play(line: &[u8], frames: usize, count: usize) {
+fn play(line: &[u8], frames: usize, count: usize)
+    requires { ⌜ (0 < count) × (count ≤ 128) × (frames ≤ 128) ⌝ }
+{
     let wave = (vectors::u64_field(line, 1) % 0x1_0000_0000) as u32;
     let rate = (vectors::u64_field(line, 2) % 0x1_0000_0000) as u32;
     let gain = vectors::f32_field(line, 3);
@@ -54,7 +68,7 @@ fn play(line: &[u8], frames: usize, count: usize) {
         &duty,
         &mut out[..frames],
     );
-    print_samples(&out[..frames]);
+    print_samples(&out, frames);
     vectors::print_u64(after);
 }
 
