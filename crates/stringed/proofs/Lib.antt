@@ -1,4 +1,5 @@
 pub mod Noise
+pub mod Rings
 pub mod Lent
 pub mod Built
 pub mod Pianos

@@ -40,7 +40,7 @@ drawn : (s : ℕ) (b : Bool) (c : ℕ) → cond b (advance (stateAfter s c)) (st
 drawn s true c = state-next s c ∙ ap (stateAfter s) (add-one c)
 drawn s false c = refl
 
--- "the number of frames below the thump's limit": pitch, knobs and gain do not enter
+-- a draw for each frame in which the hammer is heard: pitch, knobs and gain do not enter
 pub sound-end : (f : ℕ → Float) (srf : Float) (det : Pair) (norm : Float) (start : Piano) (n : ℕ) → start .rng < 2 ^ 64 → soundEnd f srf det norm start n ≡ stateAfter (start .rng) (thumps srf n)
 unfolding soundEnd stateAt pianoAt thumpEnd thumps
 sound-end f srf det norm start zero h = sym (state-none (start .rng) h)

@@ -4,14 +4,14 @@ ghost use Rattle.stringed.specs.Guitar.{modeOf, timbreOf, rung, allRung}
 
 const NEG_LN_1000: f32 = -6.907755; // c0dd0c54: a fall by 60 dB
 
-// One resonance: how it answers its own last value, and the string.
+// One resonance: the weights of its own last value, and of the string's.
 pub struct Mode {
     pub a1: f32,
     pub b0: f32,
 }
 
-// How bright and how damped the string is, and the body: Helmholtz air, top plate and back, which
-// decay alike, by a2.
+// How bright and how damped the string is, and the body: Helmholtz air, top plate and back. They
+// decay alike, so the weight a2 of the value before the last is one for all.
 pub struct Timbre {
     pub bright: f32,
     pub damp: f32,

@@ -7,8 +7,8 @@ use dsl::PianoKnobs;
 
 const PI: f32 = 3.14159265358979323846264338327950288; // 40490fdb
 
-// The fundamental, how far stiffness stretches the partials, the fundamental's decay time, where the
-// hammer strikes along the string, how far the gain opens the high partials, and how hard it is.
+// The fundamental, how far stiffness stretches the partials, the fundamental's decay time, where
+// along the string the hammer strikes, how bright the gain makes it, and how hard the hammer is.
 pub struct Blow {
     pub f0: f32,
     pub stretch: f32,

@@ -1,4 +1,4 @@
-// The strings of render/seq.rs: `pluck_note` and `piano_note`.
+// The struck and plucked strings of render/seq.rs: `pluck_note` and `piano_note`.
 mod guitar; // guitar.rt: the tone of a note, and the resonances of the body
 mod hammer; // hammer.rt: the blow on a piano string, and its partials
 mod piano; // piano.rt: the piano

@@ -115,7 +115,7 @@ fn at_rest() -> PluckState
     }
 }
 
-// The frames of a whole string, which is a ring that the loop filter runs round.
+// The frames of a string, all of which is the ring that the loop filter goes round.
 fn ring_string(k: PluckKnobs, g: Timbre, srf: f32, string: &mut [f32], out: &mut [f32])
     requires { ⌜ (0 < length (now string)) × (length (now out) ≤ 16777216) ⌝ }
     ensures { λ _. ⌜ (now (out .exit) ≡ ringFrames k g srf (now (string .entry)) (length (now (out .entry)))) × (now (string .exit) ≡ ringAfter k g srf (now (string .entry)) (length (now (out .entry)))) ⌝ }
@@ -149,8 +149,8 @@ fn draw_string(rng: Rng, string: &mut [f32]) -> Rng
     rng
 }
 
-// Karplus-Strong: a string of noise, as long as the first pitch's period, that a loop filter wears
-// down, with the pick's click and a guitar's body. The values of `string` past the period stay.
+// Karplus-Strong: a string of noise, as long as the first pitch's period, that a loop filter damps,
+// with the pick's click and a guitar's body. The values of `string` past the period stay.
 pub fn pluck_note(
     knobs: PluckKnobs,
     srf: f32,

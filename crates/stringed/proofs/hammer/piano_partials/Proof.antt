@@ -1,6 +1,6 @@
 -- `stringed::hammer::piano_partials` meets its contract, by the laws of `Built`. Assumes nothing.
 use Prim.Native.Nat.{_-_}
-use mathlib.Core.Path.{refl, sym}
+use mathlib.Core.Path.{refl}
 use native.Mathlib.Omega.{arith}
 use borrow.Author.Needs.{needs}
 use Rattle.stringed.proofs.Built.{Built, built-none, built-here, built-more, built-all}
@@ -23,7 +23,7 @@ ratio-of-requires : tie.Need-ratio-of-requires Inv-loop μ-loop
 ratio-of-requires c κs = omega arith
 
 returns : tie.Need-returns Inv-loop μ-loop
-returns c = ((c .before .before .before .before .loop .inv) .within, built-here (c .before .before .before .before .loop .inv) (c .before .before .before .loop-test .taken) (rw (c .before .before .ratio-of .ensures) at (c .if1 .taken)))
+returns c = ((c .before .before .before .before .loop .inv) .within, built-here (c .before .before .before .before .loop .inv) (omega arith) (rw (c .before .before .ratio-of .ensures) at (c .if1 .taken)))
 
 add-partial-of : tie.Need-add-partial-of Inv-loop μ-loop
 add-partial-of c = search needs
@@ -44,10 +44,10 @@ loop-less : tie.Need-loop-less Inv-loop μ-loop
 loop-less c = omega arith
 
 loop-again : tie.Need-loop-again Inv-loop μ-loop
-loop-again c = built-more (c .before .before .before .before .before .loop .inv) (c .before .before .before .before .loop-test .taken) (rw (c .before .before .before .ratio-of .ensures) at (c .before .if1 .left)) (rw (c .before .before .before .ratio-of .ensures) at (c .partial-of .ensures))
+loop-again c = built-more (c .before .before .before .before .before .loop .inv) (omega arith) (rw (c .before .before .before .ratio-of .ensures) at (c .before .if1 .left)) (rw (c .before .before .before .ratio-of .ensures) at (c .partial-of .ensures))
 
 returns-2 : tie.Need-returns-2 Inv-loop μ-loop
-returns-2 c = ((c .before .loop .inv) .within, built-all (c .before .loop .inv) (c .loop-test .left))
+returns-2 c = ((c .before .loop .inv) .within, built-all (c .before .loop .inv) (omega arith))
 
 pub piano-partials-spec : {M : Type 1} → statement M
 piano-partials-spec =
