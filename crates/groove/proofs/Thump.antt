@@ -9,7 +9,7 @@ use mathlib.Core.Bool.{Bool, true, false, cond}
 use lib.Dec.{ltb, lit<, lit≤, ltb→lt, lt→ltb}
 use borrow.Author.Tests.{ltb-true, ltb-false}
 use lib.Pow.{pow-pos}
-use lib.Ieee.{binary32, round, odd, size, ofBits}
+use lib.Ieee.{Float, binary32, round, odd, size, ofBits}
 use lib.Ieee.Exact.{HasValue}
 use Rattle.ieee.specs.Numbers.{c0·006, f32}
 use Rattle.ieee.specs.Binary32.{_⊘_}
@@ -18,7 +18,8 @@ use Rattle.ieee.proofs.Exactly.{round-value}
 use Rattle.ieee.proofs.Bounds.{at-most-lt, at-least-lt}
 use Rattle.ieee.proofs.Range.{div-at-most, div-at-least}
 use Rattle.dsl.specs.Domain.{Rate}
-use Rattle.groove.specs.Draws.{thumps, thumpFrames, count}
+use Rattle.dsl.specs.declared.wave.SeqWave.the-variants.{Piano}
+use Rattle.groove.specs.Draws.{thumps, thumpFrames, drawsOf, count}
 use Rattle.groove.proofs.Exact.{f32-value, rate-value, rate-pos}
 
 -- ---- the two neighbours
@@ -35,7 +36,7 @@ before = round-value binary32 false 12884901 31 (lit< tt) (lit≤ tt) 12884901 (
 
 -- ---- on which side i / rate lies
 module _ (rate i : ℕ) (r : Rate rate) (fits : i < 2 ^ 24) where
-  below : 500 * i < 3 * rate → thumps rate i ≡ true
+  below : 500 * i < 3 * rate → thumps (f32 rate) i ≡ true
   below h =
       at-most-lt (f32 i ⊘ f32 rate) c0·006 12884901 (2 ^ 31) 6442451 (2 ^ 30) c0·006-value (lit< tt)
       (div-at-most binary32 (f32 i) (f32 rate) i 1 rate 1 (zero-lt-suc 0) (rate-pos rate r) (zero-lt-suc 0) (f32-value i (le-of-lt fits)) (rate-value rate r)
@@ -44,7 +45,7 @@ module _ (rate i : ℕ) (r : Rate rate) (fits : i < 2 ^ 24) where
       early : (i rate : ℕ) → rate ≤ 192000 → 500 * i < 3 * rate → i * 1 * 2147483648 ≤ 12884901 * (rate * 1)
       early i rate h l = omega arith
 
-  above : 3 * rate ≤ 500 * i → thumps rate i ≡ false
+  above : 3 * rate ≤ 500 * i → thumps (f32 rate) i ≡ false
   above h =
       at-least-lt (f32 i ⊘ f32 rate) c0·006 6442451 (2 ^ 30) (pow-pos 30) c0·006-value
       (div-at-least binary32 (f32 i) (f32 rate) i 1 rate 1 (zero-lt-suc 0) (rate-pos rate r) (zero-lt-suc 0) (f32-value i (le-of-lt fits)) (rate-value rate r)
@@ -54,15 +55,15 @@ module _ (rate i : ℕ) (r : Rate rate) (fits : i < 2 ^ 24) where
       late i rate h = omega arith
 
   -- the test on f32 is the test on whole numbers
-  pub thump-is : thumps rate i ≡ ltb (500 * i) (3 * rate)
+  pub thump-is : thumps (f32 rate) i ≡ ltb (500 * i) (3 * rate)
   thump-is = go (ltb (500 * i) (3 * rate)) refl
     where
-      go : (b : Bool) → ltb (500 * i) (3 * rate) ≡ b → thumps rate i ≡ ltb (500 * i) (3 * rate)
+      go : (b : Bool) → ltb (500 * i) (3 * rate) ≡ b → thumps (f32 rate) i ≡ ltb (500 * i) (3 * rate)
       go true e = below (ltb-true (500 * i) (3 * rate) e) ∙ sym e
       go false e = above (ltb-false (500 * i) (3 * rate) e) ∙ sym e
 
   -- so the frames that draw are the first ones
-  pub thump-first : thumps rate i ≡ ltb i (thumpFrames rate)
+  pub thump-first : thumps (f32 rate) i ≡ ltb i (thumpFrames rate)
   thump-first =
       thump-is
       ∙ same-test (ltb (500 * i) (3 * rate)) (ltb i (thumpFrames rate)) (λ t. lt→ltb i (thumpFrames rate) (rounds-up i rate (ltb→lt (500 * i) (3 * rate) t)))
@@ -85,5 +86,10 @@ count-first test h (suc n) p = go (ltb n h) refl (p n (omega arith)) (count-firs
     go false e t c = let l : h ≤ n = ltb-false n h e in rw (t, e) (omega arith)
 
 -- of the first n frames of a note, those that draw
-pub thump-count : (rate n : ℕ) → Rate rate → n ≤ 2 ^ 24 → count (thumps rate) n ≡ min n (thumpFrames rate)
-thump-count rate n r h = count-first (thumps rate) (thumpFrames rate) n (λ i l. thump-first rate i r (lt-of-lt-of-le l h))
+pub thump-count : (rate n : ℕ) → Rate rate → n ≤ 2 ^ 24 → count (thumps (f32 rate)) n ≡ min n (thumpFrames rate)
+thump-count rate n r h = count-first (thumps (f32 rate)) (thumpFrames rate) n (λ i l. thump-first rate i r (lt-of-lt-of-le l h))
+
+-- so they are the draws of a piano note, whatever its first pitch
+pub piano-draws : (rate : ℕ) (first : Float) (n : ℕ) → Rate rate → n ≤ 2 ^ 24 → count (thumps (f32 rate)) n ≡ drawsOf Piano rate first n
+unfolding drawsOf
+piano-draws rate first n r h = thump-count rate n r h

@@ -8,9 +8,9 @@ use Rattle.dsl.specs.declared.wave.SeqWave.{SeqWave}
 use Rattle.dsl.specs.declared.wave.SeqWave.the-variants.{Square, Triangle, Sawtooth, Sine, Noise, Fm, Pluck, Piano, Epiano, Organ, Strings, Brass, Flute, Mallet, Bell, Bass, Cowbell}
 use Rattle.groove.specs.Period.{periodOf}
 
--- "Piano draws while frame / rate < 0.006 in f32"
-abbrev pub thumps : ℕ → ℕ → Bool
-thumps rate i = lt (f32 i ⊘ f32 rate) c0·006
+-- "Piano draws while frame / rate < 0.006 in f32": whether it does at frame i, of the rate in f32
+abbrev pub thumps : Float → ℕ → Bool
+thumps srf i = lt (f32 i ⊘ srf) c0·006
 
 -- 3 × rate / 500, rounded up
 abbrev pub thumpFrames : ℕ → ℕ

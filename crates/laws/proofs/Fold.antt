@@ -1,7 +1,7 @@
 -- Use for a loop that at turn j adds element j of a list to its state: a sum. `Folded` is the loop's invariant. Assumes nothing.
 use Prim.Native.Nat.{ℕ, _+_, _<_}
 use mathlib.Core.Path.{_≡_, refl, ap, _∙_}
-use mathlib.Core.List.{List, [], _∷_, foldl, foldl-append}
+use mathlib.Core.List.{List, foldl, foldl-append}
 use native.Mathlib.Numerals.{add-one}
 use lib.ListN.{length, getD, take}
 use lib.Seq.{take-suc}

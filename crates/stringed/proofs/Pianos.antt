@@ -13,7 +13,7 @@ use Rattle.dsp.specs.SplitMix64.{advance, stateAfter}
 use Rattle.dsp.proofs.States.{state-none, state-next}
 use Rattle.dsl.specs.declared.knobs.PianoKnobs.{PianoKnobs}
 use Rattle.osc.specs.Phase.{seconds}
-use Rattle.stringed.specs.Thumps.{thumping, thumps}
+use Rattle.groove.specs.Draws.{thumps, count}
 use Rattle.stringed.specs.Hammer.{blowOf, partialsOf}
 use Rattle.stringed.specs.Wires.{pairOf}
 use Rattle.stringed.specs.Piano.{Piano, thumpEnd, pianoAt, normOf, soundFrames, soundEnd, pianoFrames}
@@ -41,11 +41,11 @@ drawn s true c = state-next s c ∙ ap (stateAfter s) (add-one c)
 drawn s false c = refl
 
 -- a draw for each frame in which the hammer is heard: pitch, knobs and gain do not enter
-pub sound-end : (f : ℕ → Float) (srf : Float) (det : Pair) (norm : Float) (start : Piano) (n : ℕ) → start .rng < 2 ^ 64 → soundEnd f srf det norm start n ≡ stateAfter (start .rng) (thumps srf n)
-unfolding soundEnd stateAt pianoAt thumpEnd thumps
+pub sound-end : (f : ℕ → Float) (srf : Float) (det : Pair) (norm : Float) (start : Piano) (n : ℕ) → start .rng < 2 ^ 64 → soundEnd f srf det norm start n ≡ stateAfter (start .rng) (count (thumps srf) n)
+unfolding soundEnd stateAt pianoAt thumpEnd count
 sound-end f srf det norm start zero h = sym (state-none (start .rng) h)
 sound-end f srf det norm start (suc n) h =
-    ap (thumpEnd (seconds srf n)) (sound-end f srf det norm start n h) ∙ drawn (start .rng) (thumping (seconds srf n)) (thumps srf n)
+    ap (thumpEnd (seconds srf n)) (sound-end f srf det norm start n h) ∙ drawn (start .rng) (thumps srf n) (count (thumps srf) n)
 
 module _ (f : ℕ → Float) (k : PianoKnobs) (gain srf : Float) (s : ℕ) where
   pub no-frames : (out : List Float) → length out ≡ 0 → out ≡ pianoFrames f k gain srf s (length out)
@@ -53,6 +53,6 @@ module _ (f : ℕ → Float) (k : PianoKnobs) (gain srf : Float) (s : ℕ) where
   no-frames [] none = refl
   no-frames (x ∷ xs) none = absurd (omega arith)
 
-pub no-draws : (srf : Float) (s n : ℕ) → s < 2 ^ 64 → n ≡ 0 → s ≡ stateAfter s (thumps srf n)
-unfolding thumps
+pub no-draws : (srf : Float) (s n : ℕ) → s < 2 ^ 64 → n ≡ 0 → s ≡ stateAfter s (count (thumps srf) n)
+unfolding count
 no-draws srf s n h none = rw none (sym (state-none s h))

@@ -4,5 +4,4 @@ pub mod Guitar
 pub mod Pluck
 pub mod Hammer
 pub mod Wires
-pub mod Thumps
 pub mod Piano

@@ -1,9 +1,9 @@
 -- `piano_note` of render/seq.rs. `f` is the pitch by frame, `srf` the rate, `s` a state of the generator.
 use Prim.Native.Nat.{ℕ}
-use mathlib.Core.Bool.{cond}
+use mathlib.Core.Bool.{Bool, cond}
 use mathlib.Core.List.{List, map, foldl}
 use lib.ListN.{take}
-use lib.Ieee.{Float, neg}
+use lib.Ieee.{Float, neg, lt}
 use Rattle.ieee.specs.Numbers.{c0, c0·006, c0·3, c0·5, c1, c2}
 use Rattle.laws.specs.Run.{stateAt, samples}
 use Rattle.ieee.specs.Binary32.{_⊕_, _⊖_, _⊗_, _⊘_}
@@ -13,12 +13,15 @@ use Rattle.dsl.specs.declared.knobs.PianoKnobs.{PianoKnobs}
 use Rattle.osc.specs.Phase.{increment, seconds}
 use Rattle.stringed.specs.Constants.{c1e-6}
 use Rattle.stringed.specs.Noise.{biFrom}
-use Rattle.stringed.specs.Thumps.{thumping}
 use Rattle.stringed.specs.Hammer.{blowOf, partialsOf}
 use Rattle.stringed.specs.Wires.{pairOf, added, moved, ampAdded}
 use Rattle.stringed.specs.declared.hammer.Partial.{Partial}
 use Rattle.stringed.specs.declared.wires.Pair.{Pair}
 use Rattle.stringed.specs.declared.piano.PianoState.{PianoState}
+
+-- whether the hammer is heard at time t
+abbrev pub thumping : Float → Bool
+thumping t = lt t c0·006
 
 -- "Felt-hammer thump: a few ms of soft noise on the attack", and the generator after it
 unfoldable pub thumpOf : Float → ℕ → Float

@@ -5,7 +5,7 @@ ghost use lib.ListN.{length, take};
 ghost use Rattle.dsp.specs.SplitMix64.{stateAfter};
 ghost use Rattle.dsl.specs.Pitch.{pitchAt, reaches};
 ghost use Rattle.stringed.specs.Piano.{thumpOf, thumpEnd, heard, pianoAt, normOf, soundFrames, soundEnd, pianoFrames};
-ghost use Rattle.stringed.specs.Thumps.{thumps};
+ghost use Rattle.groove.specs.Draws.{thumps, count};
 use crate::hammer::Partial;
 use crate::hammer::hammer_blow;
 use crate::hammer::piano_partials;
@@ -117,7 +117,7 @@ pub fn piano_note(
 ) -> Rng
     requires { ⌜ reaches pitch (length (now lane)) (length (now out)) ⌝ }
     requires { ⌜ length (now out) ≤ 16777216 ⌝ }
-    ensures { λ r. ⌜ (now (out .exit) ≡ pianoFrames (pitchAt pitch (now (lane .entry))) knobs gain srf (rng .0) (length (now (out .entry)))) × (r .0 ≡ stateAfter (rng .0) (thumps srf (length (now (out .entry))))) ⌝ }
+    ensures { λ r. ⌜ (now (out .exit) ≡ pianoFrames (pitchAt pitch (now (lane .entry))) knobs gain srf (rng .0) (length (now (out .entry)))) × (r .0 ≡ stateAfter (rng .0) (count (thumps srf) (length (now (out .entry))))) ⌝ }
 {
     if out.len() == 0 {
         return rng;

@@ -1,8 +1,7 @@
 -- `voice_vectors::values` is safe: it reads the line's values in order. Assumes nothing.
 use Prim.Native.Nat.{_≤_, _-_}
-use mathlib.Core.Path.{_≡_, _∙_}
-use native.Mathlib.Omega.{arith}
-use lib.ListN.{length, length-set}
+use mathlib.Core.Path.{_≡_}
+use lib.ListN.{length}
 use borrow.Author.Needs.{needs}
 use Rattle.voice_vectors.proofs.values.Statement.{statement}
 use Rattle.voice_vectors.proofs.values.Tie as tie
