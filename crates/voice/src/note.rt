@@ -1,0 +1,78 @@
+// The samples of a note, before its envelope.
+ghost use mathlib.Core.Path.{_≡_};
+ghost use Prim.Native.Nat.{_≤_, _<_};
+ghost use lib.ListN.{length, drop};
+ghost use Rattle.dsl.specs.Domain.{Rate};
+ghost use Rattle.dsl.specs.Pitch.{pitchAt, reaches};
+ghost use Rattle.dsp.specs.SplitMix64.{stateAfter};
+ghost use Rattle.groove.specs.Draws.{drawsOf};
+ghost use Rattle.voice.specs.Voice.{noteFrames};
+use crate::string::pluck_string;
+use dsl::BassKnobs;
+use dsl::FmKnobs;
+use dsl::PianoKnobs;
+use dsl::Pitch;
+use dsl::PluckKnobs;
+use dsl::SeqWave;
+use dsp::Rng;
+
+// A wave and its knobs. The knobs of the sets that the wave doesn't use are there too.
+pub struct SeqVoice {
+    pub wave: SeqWave,
+    pub fm: FmKnobs,
+    pub pluck: PluckKnobs,
+    pub piano: PianoKnobs,
+    pub bass: BassKnobs,
+}
+
+// Fills `out`, and hands back the generator after the note's draws. Of `string` only the first 9,600
+// values are used.
+pub fn voice_note(
+    rng: Rng,
+    rate: u32,
+    voice: SeqVoice,
+    gain: f32,
+    pitch: Pitch,
+    lane: &[f32],
+    duty: Pitch,
+    duties: &[f32],
+    out: &mut [f32],
+    string: &mut [f32],
+) -> Rng
+    requires { ⌜ Rate rate ⌝ }
+    requires { ⌜ 0 < length (now out) ⌝ }
+    requires { ⌜ length (now out) ≤ 16777216 ⌝ }
+    requires { ⌜ 9600 ≤ length (now string) ⌝ }
+    requires { ⌜ reaches pitch (length (now lane)) (length (now out)) ⌝ }
+    requires { ⌜ reaches duty (length (now duties)) (length (now out)) ⌝ }
+    ensures { λ r. ⌜ r .0 ≡ stateAfter (rng .0) (drawsOf (voice .wave) rate (pitchAt pitch (now (lane .entry)) 0) (length (now (out .entry)))) ⌝ }
+    ensures { λ _. ⌜ now (out .exit) ≡ noteFrames rate voice gain (pitchAt pitch (now (lane .entry))) (pitchAt duty (now (duties .entry))) (rng .0) (length (now (out .entry))) ⌝ }
+    ensures { λ _. ⌜ drop 9600 (now (string .exit)) ≡ drop 9600 (now (string .entry)) ⌝ }
+{
+    let srf = std::num::nearest_u32_to_f32(rate);
+    let wave = voice.wave;
+    match wave {
+        SeqWave::Square => waves::square(pitch, lane, duty, duties, srf, out),
+        SeqWave::Triangle => waves::triangle(pitch, lane, srf, out),
+        SeqWave::Sawtooth => waves::sawtooth(pitch, lane, srf, out),
+        SeqWave::Sine => waves::sine(pitch, lane, srf, out),
+        SeqWave::Noise => return waves::noise(rng, out),
+        SeqWave::Fm => waves::fm(pitch, lane, voice.fm, gain, srf, out),
+        SeqWave::Pluck => {
+            return pluck_string(rng, rate, voice.pluck, pitch.at(lane, 0), out, string);
+        }
+        SeqWave::Piano => {
+            return stringed::piano_note(voice.piano, gain, pitch, lane, srf, rng, out);
+        }
+        SeqWave::Epiano => struck::epiano_note(pitch, lane, gain, srf, out),
+        SeqWave::Organ => sustained::organ_note(pitch, lane, srf, out),
+        SeqWave::Strings => sustained::strings_note(pitch, lane, srf, out),
+        SeqWave::Brass => sustained::brass_note(pitch, lane, gain, srf, out),
+        SeqWave::Flute => return sustained::flute_note(pitch, lane, gain, srf, rng, out),
+        SeqWave::Mallet => struck::mallet_note(pitch, lane, gain, srf, out),
+        SeqWave::Bell => struck::bell_note(pitch, lane, srf, out),
+        SeqWave::Bass => struck::bass_note(pitch, lane, voice.bass, gain, srf, out),
+        SeqWave::Cowbell => waves::cowbell(pitch, lane, srf, out),
+    }
+    rng
+}
