@@ -1,17 +1,14 @@
-// A voice over its pitch and duty by frame, from a generator's state. Until the note call is there,
-// this is what the comparison plays.
-ghost use Prim.Native.Nat.{_≤_, _<_};
+// A note call, from a generator's state.
 ghost use mathlib.Core.Path.{_≡_};
 ghost use lib.ListN.{length};
-ghost use Rattle.dsl.specs.Domain.{Rate};
 use dsl::BassKnobs;
 use dsl::FmKnobs;
 use dsl::PianoKnobs;
-use dsl::Pitch;
 use dsl::PluckKnobs;
 use dsl::SeqWave;
 use dsl::WaveAt;
 use dsp::Rng;
+use voice::SeqVoice;
 
 fn fm_knobs(k: &[f32]) -> FmKnobs
     requires { ⌜ length (now k) ≡ 22 ⌝ }
@@ -63,62 +60,9 @@ fn bass_knobs(k: &[f32]) -> BassKnobs
     }
 }
 
-// The pluck, on a string of its own.
-fn play_pluck(knobs: PluckKnobs, rate: u32, rng: Rng, first: f32, out: &mut [f32]) -> Rng
-    requires { ⌜ Rate rate ⌝ }
-    requires { ⌜ length (now out) ≤ 16777216 ⌝ }
-{
-    let mut string = [0.0f32; 9600];
-    let period = groove::string_period(rate, first);
-    let srf = std::num::nearest_u32_to_f32(rate);
-    stringed::pluck_note(knobs, srf, period, rng, &mut string, out)
-}
-
-fn play_wave(
-    wave: SeqWave,
-    knobs: &[f32],
-    gain: f32,
-    rate: u32,
-    rng: Rng,
-    pitch: &[f32],
-    duty: &[f32],
-    out: &mut [f32],
-) -> Rng
-    requires { ⌜ length (now knobs) ≡ 22 ⌝ }
-    requires { ⌜ Rate rate ⌝ }
-    requires { ⌜ 0 < length (now out) ⌝ }
-    requires { ⌜ length (now out) ≤ 16777216 ⌝ }
-    requires { ⌜ length (now out) ≤ length (now pitch) ⌝ }
-    requires { ⌜ length (now out) ≤ length (now duty) ⌝ }
-{
-    let curve = Pitch::Curve(0);
-    let srf = std::num::nearest_u32_to_f32(rate);
-    match wave {
-        SeqWave::Square => waves::square(curve, pitch, curve, duty, srf, out),
-        SeqWave::Triangle => waves::triangle(curve, pitch, srf, out),
-        SeqWave::Sawtooth => waves::sawtooth(curve, pitch, srf, out),
-        SeqWave::Sine => waves::sine(curve, pitch, srf, out),
-        SeqWave::Noise => return waves::noise(rng, out),
-        SeqWave::Fm => waves::fm(curve, pitch, fm_knobs(knobs), gain, srf, out),
-        SeqWave::Cowbell => waves::cowbell(curve, pitch, srf, out),
-        SeqWave::Epiano => struck::epiano_note(curve, pitch, gain, srf, out),
-        SeqWave::Organ => sustained::organ_note(curve, pitch, srf, out),
-        SeqWave::Strings => sustained::strings_note(curve, pitch, srf, out),
-        SeqWave::Brass => sustained::brass_note(curve, pitch, gain, srf, out),
-        SeqWave::Flute => return sustained::flute_note(curve, pitch, gain, srf, rng, out),
-        SeqWave::Mallet => struck::mallet_note(curve, pitch, gain, srf, out),
-        SeqWave::Bell => struck::bell_note(curve, pitch, srf, out),
-        SeqWave::Bass => struck::bass_note(curve, pitch, bass_knobs(knobs), gain, srf, out),
-        SeqWave::Pluck => return play_pluck(pluck_knobs(knobs), rate, rng, pitch[0], out),
-        SeqWave::Piano => {
-            return stringed::piano_note(piano_knobs(knobs), gain, curve, pitch, srf, rng, out);
-        }
-    }
-    rng
-}
-
-// The state after the note, which fills `out`. Where a length or the rate is out of range or there is
-// no such wave, nothing is filled, and the answer is the state that was handed in.
+// The state after a note call, which fills `out`, on a string of its own and on as much of `pitch` and
+// `duty`. Where the call is refused, there is no such wave, a slice is too short or there are not 22
+// knobs, nothing is filled, and the answer is the state that was handed in.
 #[no_mangle]
 pub extern "C" fn h_voice(
     wave: u32,
@@ -133,27 +77,28 @@ pub extern "C" fn h_voice(
     if knobs.len() != 22 {
         return state;
     }
-    if rate < 8000 {
+    let n = out.len();
+    if n > pitch.len() {
         return state;
     }
-    if rate > 192000 {
+    if n > duty.len() {
         return state;
     }
-    if out.len() == 0 {
-        return state;
-    }
-    if out.len() > 16777216 {
-        return state;
-    }
-    if out.len() > pitch.len() {
-        return state;
-    }
-    if out.len() > duty.len() {
-        return state;
-    }
-    let WaveAt::Wave(w) = SeqWave::at(wave) else {
+    let WaveAt::Wave(wave) = SeqWave::at(wave) else {
         return state;
     };
-    let after = play_wave(w, knobs, gain, rate, Rng::new(state), pitch, duty, out);
+    let voice = SeqVoice {
+        wave,
+        fm: fm_knobs(knobs),
+        pluck: pluck_knobs(knobs),
+        piano: piano_knobs(knobs),
+        bass: bass_knobs(knobs),
+    };
+    let mut string = [0.0f32; 9600];
+    let rng = Rng::new(state);
+    let pitch = &pitch[..n];
+    let duty = &duty[..n];
+    let answer = note::seq_note_signal(rng, rate, voice, gain, pitch, duty, out, &mut string);
+    let after = answer.rng;
     after.state()
 }

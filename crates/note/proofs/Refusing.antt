@@ -1,0 +1,24 @@
+-- No refusal has the number 0, so that each refuses. Assumes nothing.
+use mathlib.Core.Path.{_≡_, refl}
+use Rattle.note.specs.Answer.{numberOf, Result, refused, unless}
+use Rattle.note.specs.declared.answer.Refusal.{Refusal}
+use Rattle.note.specs.declared.answer.Refusal.the-variants.{Rate, Frames, Tempo, StepsPerBeat, Groove, Knobs, Words, Kind, Place, Size, Lane, Reach, NoPitch, Lengths, NoteBuffer, StringBuffer, Draws}
+
+pub refuses : (r : Refusal) (x : Result) → unless (numberOf r) x ≡ refused (numberOf r)
+refuses Rate x = refl
+refuses Frames x = refl
+refuses Tempo x = refl
+refuses StepsPerBeat x = refl
+refuses Groove x = refl
+refuses Knobs x = refl
+refuses Words x = refl
+refuses Kind x = refl
+refuses Place x = refl
+refuses Size x = refl
+refuses Lane x = refl
+refuses Reach x = refl
+refuses NoPitch x = refl
+refuses Lengths x = refl
+refuses NoteBuffer x = refl
+refuses StringBuffer x = refl
+refuses Draws x = refl

@@ -1,0 +1,71 @@
+-- A note call: its refusals in 01's order, its answer, and what it leaves.
+use Prim.Native.Nat.{ℕ}
+use mathlib.Core.Path.{_≡_}
+use mathlib.Core.List.{List}
+use mathlib.Core.Bool.{cond, not}
+use lib.ListN.{length, drop, getD}
+use lib.Dec.{ltb, eqb}
+use lib.Ieee.{Float, nan}
+use Rattle.dsp.specs.SplitMix64.{stateAfter}
+use Rattle.dsp.specs.declared.rng.Rng.{Rng}
+use Rattle.dsl.specs.Sized.{sizedOf, allSized}
+use Rattle.dsl.specs.Knobs.{knobList}
+use Rattle.groove.specs.Draws.{drawsOf}
+use Rattle.voice.specs.Voice.{noteFrames}
+use Rattle.voice.specs.declared.note.SeqVoice.{SeqVoice}
+use Rattle.note.specs.Answer.{Result, refused, accepted, unless, seen, outAfter, free}
+use Rattle.note.specs.declared.answer.NoteAnswer.{NoteAnswer}
+
+-- "10 gain, or a pitch or duty value, not sized; 13 pitch empty; 14 pitch, duty and output differ in length"; 0: none applies
+unfoldable pub valuesRefusal : Float → List Float → List Float → ℕ → ℕ
+valuesRefusal gain pitch duty n =
+    cond (not (sizedOf gain)) 10
+    (cond (not (allSized pitch)) 10
+    (cond (not (allSized duty)) 10
+    (cond (eqb (length pitch) 0) 13
+    (cond (not (eqb (length duty) (length pitch))) 14
+    (cond (not (eqb n (length pitch))) 14 0)))))
+
+-- "in the order 1, 2, 6, 21, 10, 13, 14 .. 2 judges the output's length"; n and `string` are the lengths of the output and of the string buffer
+unfoldable pub noteCallRefusal : ℕ → SeqVoice → Float → List Float → List Float → ℕ → ℕ → ℕ
+noteCallRefusal rate v gain pitch duty n string =
+    cond (ltb rate 8000) 1
+    (cond (ltb 192000 rate) 1
+    (cond (ltb 16777216 n) 2
+    (cond (not (allSized (knobList (v .fm) (v .pluck) (v .piano) (v .bass)))) 6
+    (cond (ltb string 9600) 21 (valuesRefusal gain pitch duty n)))))
+
+-- "An accepted note call reports e, demand 3's draws with every frame of its output sounded", from the generator's state g
+unfoldable pub noteResultOf : ℕ → SeqVoice → Float → List Float → List Float → ℕ → ℕ → ℕ → Result
+noteResultOf rate voice gain pitch duty n string g =
+    unless (noteCallRefusal rate voice gain pitch duty n string)
+    (accepted (drawsOf (voice .wave) rate (getD pitch 0 nan) n) (noteFrames rate voice gain (λ i. getD pitch i nan) (λ i. getD duty i nan) g n))
+
+-- What a call was handed and lent, what it answered, and what the lent buffers then hold.
+pub record NoteEvent : Type 0 where
+  pub rng : Rng
+  pub rate : ℕ
+  pub voice : SeqVoice
+  pub gain : Float
+  pub pitch : List Float
+  pub duty : List Float
+  pub out₀ : List Float
+  pub string₀ : List Float
+  pub answer : NoteAnswer
+  pub out : List Float
+  pub string : List Float
+
+abbrev pub noteResultIn : NoteEvent → Result
+noteResultIn e = noteResultOf (e .rate) (e .voice) (e .gain) (e .pitch) (e .duty) (length (e .out₀)) (length (e .string₀)) (e .rng .0)
+
+-- "and hands back its state + e × G modulo 2^64"; a refused call hands back its state
+abbrev pub rngAfter : Rng → Result → Rng
+rngAfter g (refused number) = g
+rngAfter g (accepted draws frames) = record { 0 = stateAfter (g .0) draws }
+
+-- The contract of a note call. "Free are only .. after an accepted call .. the string buffer's first 9,600 values; the others .. stay".
+pub record Voiced (e : NoteEvent) : Type 0 where
+  pub answer : seen (e .answer .outcome) (e .out) ≡ noteResultIn e
+  pub rng : e .answer .rng ≡ rngAfter (e .rng) (noteResultIn e)
+  pub frames : e .out ≡ outAfter (e .out₀) (noteResultIn e)
+  pub string : drop (free 9600 (noteResultIn e)) (e .string) ≡ drop (free 9600 (noteResultIn e)) (e .string₀)
