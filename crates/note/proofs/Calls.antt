@@ -1,8 +1,8 @@
 -- The ways in which a note call ends. Assumes nothing.
-use Prim.Native.Nat.{ℕ, suc, _≤_, _<_}
-use mathlib.Core.Path.{_≡_, refl, sym, ap, _∙_}
+use Prim.Native.Nat.{ℕ, _≤_, _<_}
+use mathlib.Core.Path.{_≡_, sym, ap, _∙_}
 use mathlib.Core.List.{List}
-use mathlib.Core.Bool.{Bool, true, false, not, cond}
+use mathlib.Core.Bool.{not}
 use native.Mathlib.Omega.{arith}
 use native.Mathlib.Nat.{zero-add}
 use borrow.Author.Tests.{ltb-false, eqb-false, eqb-true, not-false}
@@ -24,11 +24,7 @@ use Rattle.note.specs.NoteCall.{NoteEvent, Voiced, valuesRefusal, noteCa
 use Rattle.note.specs.declared.answer.NoteAnswer.{NoteAnswer}
 use Rattle.note.specs.declared.answer.Outcome.the-variants.{Played, Refused}
 use Rattle.note.specs.declared.answer.Refusal.{Refusal}
-use Rattle.note.proofs.Refusing.{refuses}
-
-cond-zero : (b : Bool) (n rest : ℕ) → cond b (suc n) rest ≡ 0 → (b ≡ false) × (rest ≡ 0)
-cond-zero true n rest e = let z : _≡_ {A = ℕ} 0 1 = omega arith in (cc, omega arith)
-cond-zero false n rest e = (refl, e)
+use Rattle.note.proofs.Refusing.{refuses, cond-zero}
 
 -- what an accepted call's arguments are
 pub record NoteAccepted (rate : ℕ) (pitch duty : List Float) (n string : ℕ) : Type 0 where

@@ -7,4 +7,5 @@ mod verdict; // verdict.rt: its refusals, in their order
 pub use answer::NoteAnswer;
 pub use answer::Outcome;
 pub use answer::Refusal;
+pub use answer::Verdict;
 pub use call::seq_note_signal;

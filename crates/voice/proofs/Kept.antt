@@ -1,4 +1,4 @@
--- What stands past the string's first 9,600 values stays. Assumes nothing.
+-- Where the first e values of a slice were written, what stands past m of them stays. Use for what is not free of a lent buffer. Assumes nothing.
 use Prim.Native.Nat.{ℕ, _+_, _-_, _≤_}
 use mathlib.Core.Path.{_≡_, sym, ap, _∙_}
 use mathlib.Core.List.{List, _++_}
@@ -10,11 +10,11 @@ use Rattle.dsl.specs.declared.knobs.PluckKnobs.{PluckKnobs}
 use Rattle.stringed.specs.Pluck.{pluckString}
 use Rattle.stringed.proofs.Rings.{pluck-string-length}
 
-string-kept : (A l : List Float) (e : ℕ) → length A ≡ e → e ≤ 9600 → drop 9600 (A ++ drop e l) ≡ drop 9600 l
-string-kept A l e len most =
-    let z : length A + (9600 - e) ≡ 9600 = omega arith in
-    let y : e + (9600 - e) ≡ 9600 = omega arith in
-    ap (λ (k : ℕ). drop k (A ++ drop e l)) (sym z) ∙ drop-append-add A (drop e l) (9600 - e) ∙ drop-drop (9600 - e) e l ∙ ap (λ (k : ℕ). drop k l) y
+pub kept-past : (m : ℕ) (A l : List Float) (e : ℕ) → length A ≡ e → e ≤ m → drop m (A ++ drop e l) ≡ drop m l
+kept-past m A l e len most =
+    let z : length A + (m - e) ≡ m = omega arith in
+    let y : e + (m - e) ≡ m = omega arith in
+    ap (λ (k : ℕ). drop k (A ++ drop e l)) (sym z) ∙ drop-append-add A (drop e l) (m - e) ∙ drop-drop (m - e) e l ∙ ap (λ (k : ℕ). drop k l) y
 
 pub pluck-kept : (k : PluckKnobs) (srf : Float) (period s n : ℕ) (l left : List Float) → left ≡ pluckString k srf period s n ++ drop period l → period ≤ 9600 → drop 9600 left ≡ drop 9600 l
-pluck-kept k srf period s n l left is fits = ap (drop 9600) is ∙ string-kept (pluckString k srf period s n) l period (pluck-string-length k srf period s n) fits
+pluck-kept k srf period s n l left is fits = ap (drop 9600) is ∙ kept-past 9600 (pluckString k srf period s n) l period (pluck-string-length k srf period s n) fits

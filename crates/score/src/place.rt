@@ -1,0 +1,49 @@
+// The notes of a score, and where they stand.
+ghost use mathlib.Core.Path.{_≡_};
+ghost use Prim.Native.Nat.{_+_, _*_, _<_};
+ghost use lib.ListN.{length};
+ghost use Rattle.dsl.specs.Domain.{Frames, numeric};
+ghost use Rattle.score.specs.Score.{noteAt, placeOf};
+use crate::seq::Seq;
+use dsl::Decoded;
+use dsl::SeqNote;
+
+// Note k of a list of note words.
+pub fn note_at(notes: &[u32], k: usize) -> Decoded
+    requires { ⌜ k * 5 + 4 < length (now notes) ⌝ }
+    ensures { λ r. ⌜ r ≡ noteAt (now (notes .entry)) k ⌝ }
+{
+    let i = k * 5;
+    SeqNote::decode(
+        notes[i],
+        notes[i + 1],
+        notes[i + 2],
+        notes[i + 3],
+        notes[i + 4],
+    )
+}
+
+// A note's first frame, its whole length, how many frames of it sound within the score, and its
+// grooved gain.
+pub struct Place {
+    pub start: usize,
+    pub len: usize,
+    pub sounded: usize,
+    pub gain: f32,
+}
+
+pub fn place_note(seq: Seq, n: usize, note: SeqNote) -> Place
+    requires { ⌜ Frames n ⌝ }
+    requires { ⌜ numeric (note .pitch) ⌝ }
+    ensures { λ r. ⌜ r ≡ placeOf seq n note ⌝ }
+{
+    let step_dur = groove::step_dur(seq.rate, seq.tempo, seq.steps_per_beat);
+    let groove = groove::groove_note(note, seq.swing, seq.humanize, step_dur);
+    let len = groove::note_len(note.len, step_dur, n);
+    Place {
+        start: groove.start,
+        len,
+        sounded: groove::sounded_frames(n, groove.start, len),
+        gain: groove.gain,
+    }
+}

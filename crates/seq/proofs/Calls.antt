@@ -1,0 +1,94 @@
+-- The ways in which a score call ends. Assumes nothing.
+use Prim.Native.Nat.{ℕ, _+_, _-_, _^_, _≤_, _<_}
+use mathlib.Core.Path.{_≡_, refl, sym, ap, _∙_}
+use mathlib.Core.Bool.{Bool, true, false, cond}
+use native.Mathlib.Omega.{arith}
+use borrow.Author.Tests.{ltb-true, ltb-false, lt-ltb, le-ltb}
+use lib.ListN.{length, drop}
+use lib.Dec.{ltb}
+use Rattle.dsp.specs.SplitMix64.{stateAfter}
+use Rattle.dsp.specs.declared.rng.Rng.{Rng}
+use Rattle.note.specs.Answer.{numberOf, Result, refused, accepted, unless, seen, outAfter, free}
+use Rattle.note.specs.declared.answer.Outcome.the-variants.{Played, Refused}
+use Rattle.note.specs.declared.answer.Refusal.{Refusal}
+use Rattle.note.proofs.Refusing.{refuses}
+use Rattle.score.specs.Score.{Score, scoreDraws, scoreFrames}
+use Rattle.score.specs.Refusals.{refusal, refusalAt}
+use Rattle.score.specs.ScoreCall.{Event, Scored, scoreIn, sessionAfter, resultOf, resultIn}
+use Rattle.score.specs.declared.session.Session.{Session}
+use Rattle.score.specs.declared.answer.Answer.{Answer}
+use Rattle.verdict.specs.Sum.{sumOf}
+use Rattle.verdict.specs.declared.draws.Sum.the-variants.{Over, Total}
+use Rattle.verdict.proofs.Order.{or-first}
+
+-- ---- 22 applies where none before it does and the draws pass what is left
+over-is : (b : Bool) (D : ℕ) → Over ≡ cond b Over (Total D) → b ≡ true
+over-is true D e = refl
+over-is false D e = cc
+
+total-is : (b : Bool) (D t : ℕ) → Total t ≡ cond b Over (Total D) → (b ≡ false) × (t ≡ D)
+total-is true D t e = (cc, cc)
+total-is false D t e = (refl, cc)
+
+module _ (left D t : ℕ) (e : Total t ≡ sumOf left D) where
+  pub total-exact : t ≡ D
+  total-exact = total-is (ltb left D) D t e .1
+
+  pub total-fits : D ≤ left
+  total-fits = ltb-false left D (total-is (ltb left D) D t e .0)
+
+module _ (s : Score) (room string d : ℕ) where
+  pub refused-first : (r : Refusal) → numberOf r ≡ refusal s room string → numberOf r ≡ refusalAt s room string d
+  unfolding refusalAt
+  refused-first r e = or-first r (refusal s room string) (cond (ltb (2 ^ 64 - 1) (d + scoreDraws s)) 22 0) e
+
+  module _ (none : refusal s room string ≡ 0) (fits : d < 2 ^ 64) where
+    pub refused-last : Over ≡ sumOf (2 ^ 64 - 1 - d) (scoreDraws s) → 22 ≡ refusalAt s room string d
+    unfolding refusalAt
+    refused-last o =
+        let h : 2 ^ 64 - 1 < d + scoreDraws s = omega (arith, ltb-true (2 ^ 64 - 1 - d) (scoreDraws s) (over-is _ _ o)) in
+        rw (none, lt-ltb _ _ h)
+
+    pub refused-not : (t : ℕ) → Total t ≡ sumOf (2 ^ 64 - 1 - d) (scoreDraws s) → refusalAt s room string d ≡ 0
+    unfolding refusalAt
+    refused-not t o =
+        let h : d + scoreDraws s ≤ 2 ^ 64 - 1 = omega (arith, total-fits (2 ^ 64 - 1 - d) (scoreDraws s) t o) in
+        rw (none, le-ltb _ _ h)
+
+-- ---- a call on the session a
+module _ (a : Session) (e : Event) where
+  abbrev at : ℕ
+  at = refusalAt (scoreIn e) (length (e .buffer₀)) (length (e .string₀)) (a .draw)
+
+  abbrev full : Result
+  full = accepted (scoreDraws (scoreIn e)) (scoreFrames (scoreIn e) (a .rng .0) 0)
+
+  is-refused : (r : Refusal) → numberOf r ≡ at → resultIn a e ≡ refused (numberOf r)
+  unfolding resultOf
+  is-refused r n = ap (λ (m : ℕ). unless m full) (sym n) ∙ refuses r full
+
+  is-accepted : at ≡ 0 → resultIn a e ≡ full
+  unfolding resultOf
+  is-accepted n = ap (λ (m : ℕ). unless m full) n
+
+  pub refused-call : (r : Refusal) → numberOf r ≡ at → e .answer ≡ record { session = a; outcome = Refused r } → e .out ≡ e .out₀ → e .buffer ≡ e .buffer₀ → e .string ≡ e .string₀ → Scored a e
+  refused-call r n ans o b s =
+      let q = is-refused r n in record {
+        answer = ap (λ (x : Answer). seen (x .outcome) (e .out)) ans ∙ sym q;
+        session = ap (λ (x : Answer). x .session) ans ∙ ap (sessionAfter a) (sym q);
+        frames = o ∙ ap (outAfter (e .out₀)) (sym q);
+        buffer = ap (drop (free (length (e .out₀)) (resultIn a e))) b;
+        string = ap (drop (free 9600 (resultIn a e))) s;
+      }
+
+  pub accepted-call : at ≡ 0 → (g : Rng) (t : ℕ) → t ≡ scoreDraws (scoreIn e) → g .0 ≡ stateAfter (a .rng .0) (scoreDraws (scoreIn e))
+      → e .answer ≡ record { session = record { rng = g; draw = a .draw + t }; outcome = Played t } → e .out ≡ scoreFrames (scoreIn e) (a .rng .0) 0
+      → drop (length (e .out₀)) (e .buffer) ≡ drop (length (e .out₀)) (e .buffer₀) → drop 9600 (e .string) ≡ drop 9600 (e .string₀) → Scored a e
+  accepted-call n g t et eg ans o b s =
+      let q = is-accepted n in record {
+        answer = ap (λ (x : Answer). seen (x .outcome) (e .out)) ans ∙ (λ j. accepted (et j) (o j)) ∙ sym q;
+        session = ap (λ (x : Answer). x .session) ans ∙ (λ j. record { rng = record { 0 = eg j }; draw = a .draw + et j }) ∙ ap (sessionAfter a) (sym q);
+        frames = o ∙ ap (outAfter (e .out₀)) (sym q);
+        buffer = rw q b;
+        string = rw q s;
+      }

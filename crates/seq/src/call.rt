@@ -1,0 +1,68 @@
+// The score call.
+ghost use Rattle.score.specs.ScoreCall.{Scored};
+use crate::notes::play_notes;
+use note::Outcome;
+use note::Refusal;
+use note::Verdict;
+use score::Answer;
+use score::Seq;
+use score::Session;
+use verdict::Sum;
+
+// Fills `out` with a score, and answers how many draws it made and the session after them. `notes` has
+// five words a note, and the curves of pitches are parts of `lane`. An accepted call uses as many values
+// of `note_buf` as `out` has, and the first 9,600 of `string`; a refused call changes nothing.
+pub fn render_seq(
+    session: Session,
+    seq: Seq,
+    notes: &[u32],
+    lane: &[f32],
+    out: &mut [f32],
+    note_buf: &mut [f32],
+    string: &mut [f32],
+) -> Answer
+    ensures { λ r. ⌜ Scored session (record {
+      seq = seq;
+      notes = now (notes .entry);
+      lane = now (lane .entry);
+      out₀ = now (out .entry);
+      buffer₀ = now («note_buf» .entry);
+      string₀ = now (string .entry);
+      answer = r;
+      out = now (out .exit);
+      buffer = now («note_buf» .exit);
+      string = now (string .exit);
+    }) ⌝ }
+{
+    let n = out.len();
+    if let Verdict::Refuse(r) = verdict::score_verdict(
+        seq,
+        notes,
+        lane,
+        n,
+        note_buf.len(),
+        string.len(),
+    ) {
+        return Answer {
+            session,
+            outcome: Outcome::Refused(r),
+        };
+    }
+    let draw = session.draw;
+    let sum = verdict::score_draws(seq, notes, lane, n, u64::MAX - draw);
+    let Sum::Total(d) = sum else {
+        return Answer {
+            session,
+            outcome: Outcome::Refused(Refusal::Draws),
+        };
+    };
+    let rng = play_notes(session.rng, seq, notes, lane, out, note_buf, string);
+    let after = Session {
+        rng,
+        draw: draw + d,
+    };
+    Answer {
+        session: after,
+        outcome: Outcome::Played(d),
+    }
+}

@@ -1,0 +1,5 @@
+pub mod Alone
+pub mod Tally
+pub mod Claim
+pub mod Setting
+pub mod Sum

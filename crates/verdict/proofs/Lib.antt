@@ -1,0 +1,3 @@
+pub mod Order
+mod Ends
+mod Adding
