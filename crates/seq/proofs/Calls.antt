@@ -8,15 +8,18 @@ use lib.ListN.{length, drop}
 use lib.Dec.{ltb}
 use Rattle.dsp.specs.SplitMix64.{stateAfter}
 use Rattle.dsp.specs.declared.rng.Rng.{Rng}
+use Rattle.dsl.specs.Domain.{Rate, Frames}
 use Rattle.note.specs.Answer.{numberOf, Result, refused, accepted, unless, seen, outAfter, free}
 use Rattle.note.specs.declared.answer.Outcome.the-variants.{Played, Refused}
 use Rattle.note.specs.declared.answer.Refusal.{Refusal}
+use Rattle.note.specs.declared.answer.Refusal.the-variants.{Draws}
 use Rattle.note.proofs.Refusing.{refuses}
 use Rattle.score.specs.Score.{Score, scoreDraws, scoreFrames}
-use Rattle.score.specs.Refusals.{refusal, refusalAt}
+use Rattle.score.specs.Refusals.{refusal, refusalAt, Clean}
 use Rattle.score.specs.ScoreCall.{Event, Scored, scoreIn, sessionAfter, resultOf, resultIn}
 use Rattle.score.specs.declared.session.Session.{Session}
 use Rattle.score.specs.declared.answer.Answer.{Answer}
+use Rattle.score.proofs.Accepted.{accepted-score}
 use Rattle.verdict.specs.Sum.{sumOf}
 use Rattle.verdict.specs.declared.draws.Sum.the-variants.{Over, Total}
 use Rattle.verdict.proofs.Order.{or-first}
@@ -31,25 +34,25 @@ total-is true D t e = (cc, cc)
 total-is false D t e = (refl, cc)
 
 module _ (left D t : ℕ) (e : Total t ≡ sumOf left D) where
-  pub total-exact : t ≡ D
+  total-exact : t ≡ D
   total-exact = total-is (ltb left D) D t e .1
 
-  pub total-fits : D ≤ left
+  total-fits : D ≤ left
   total-fits = ltb-false left D (total-is (ltb left D) D t e .0)
 
 module _ (s : Score) (room string d : ℕ) where
-  pub refused-first : (r : Refusal) → numberOf r ≡ refusal s room string → numberOf r ≡ refusalAt s room string d
+  refused-first : (r : Refusal) → numberOf r ≡ refusal s room string → numberOf r ≡ refusalAt s room string d
   unfolding refusalAt
   refused-first r e = or-first r (refusal s room string) (cond (ltb (2 ^ 64 - 1) (d + scoreDraws s)) 22 0) e
 
   module _ (none : refusal s room string ≡ 0) (fits : d < 2 ^ 64) where
-    pub refused-last : Over ≡ sumOf (2 ^ 64 - 1 - d) (scoreDraws s) → 22 ≡ refusalAt s room string d
+    refused-last : Over ≡ sumOf (2 ^ 64 - 1 - d) (scoreDraws s) → 22 ≡ refusalAt s room string d
     unfolding refusalAt
     refused-last o =
         let h : 2 ^ 64 - 1 < d + scoreDraws s = omega (arith, ltb-true (2 ^ 64 - 1 - d) (scoreDraws s) (over-is _ _ o)) in
         rw (none, lt-ltb _ _ h)
 
-    pub refused-not : (t : ℕ) → Total t ≡ sumOf (2 ^ 64 - 1 - d) (scoreDraws s) → refusalAt s room string d ≡ 0
+    refused-not : (t : ℕ) → Total t ≡ sumOf (2 ^ 64 - 1 - d) (scoreDraws s) → refusalAt s room string d ≡ 0
     unfolding refusalAt
     refused-not t o =
         let h : d + scoreDraws s ≤ 2 ^ 64 - 1 = omega (arith, total-fits (2 ^ 64 - 1 - d) (scoreDraws s) t o) in
@@ -71,8 +74,8 @@ module _ (a : Session) (e : Event) where
   unfolding resultOf
   is-accepted n = ap (λ (m : ℕ). unless m full) n
 
-  pub refused-call : (r : Refusal) → numberOf r ≡ at → e .answer ≡ record { session = a; outcome = Refused r } → e .out ≡ e .out₀ → e .buffer ≡ e .buffer₀ → e .string ≡ e .string₀ → Scored a e
-  refused-call r n ans o b s =
+  refused-by : (r : Refusal) → numberOf r ≡ at → e .answer ≡ record { session = a; outcome = Refused r } → e .out ≡ e .out₀ → e .buffer ≡ e .buffer₀ → e .string ≡ e .string₀ → Scored a e
+  refused-by r n ans o b s =
       let q = is-refused r n in record {
         answer = ap (λ (x : Answer). seen (x .outcome) (e .out)) ans ∙ sym q;
         session = ap (λ (x : Answer). x .session) ans ∙ ap (sessionAfter a) (sym q);
@@ -81,10 +84,10 @@ module _ (a : Session) (e : Event) where
         string = ap (drop (free 9600 (resultIn a e))) s;
       }
 
-  pub accepted-call : at ≡ 0 → (g : Rng) (t : ℕ) → t ≡ scoreDraws (scoreIn e) → g .0 ≡ stateAfter (a .rng .0) (scoreDraws (scoreIn e))
+  accepted-by : at ≡ 0 → (g : Rng) (t : ℕ) → t ≡ scoreDraws (scoreIn e) → g .0 ≡ stateAfter (a .rng .0) (scoreDraws (scoreIn e))
       → e .answer ≡ record { session = record { rng = g; draw = a .draw + t }; outcome = Played t } → e .out ≡ scoreFrames (scoreIn e) (a .rng .0) 0
       → drop (length (e .out₀)) (e .buffer) ≡ drop (length (e .out₀)) (e .buffer₀) → drop 9600 (e .string) ≡ drop 9600 (e .string₀) → Scored a e
-  accepted-call n g t et eg ans o b s =
+  accepted-by n g t et eg ans o b s =
       let q = is-accepted n in record {
         answer = ap (λ (x : Answer). seen (x .outcome) (e .out)) ans ∙ (λ j. accepted (et j) (o j)) ∙ sym q;
         session = ap (λ (x : Answer). x .session) ans ∙ (λ j. record { rng = record { 0 = eg j }; draw = a .draw + et j }) ∙ ap (sessionAfter a) (sym q);
@@ -92,3 +95,36 @@ module _ (a : Session) (e : Event) where
         buffer = rw q b;
         string = rw q s;
       }
+
+  -- what the draws may not pass
+  abbrev left : ℕ
+  left = 2 ^ 64 - 1 - a .draw
+
+  abbrev early : ℕ
+  early = refusal (scoreIn e) (length (e .buffer₀)) (length (e .string₀))
+
+  -- a refusal that is not 22
+  pub refused-call : (r : Refusal) → numberOf r ≡ early → e .answer ≡ record { session = a; outcome = Refused r } → e .out ≡ e .out₀ → e .buffer ≡ e .buffer₀ → e .string ≡ e .string₀ → Scored a e
+  refused-call r n = refused-by r (refused-first (scoreIn e) _ _ (a .draw) r n)
+
+  module _ (none : 0 ≡ early) (fits : a .draw < 2 ^ 64) where
+    pub overdrawn-call : Over ≡ sumOf left (scoreDraws (scoreIn e)) → e .answer ≡ record { session = a; outcome = Refused Draws } → e .out ≡ e .out₀ → e .buffer ≡ e .buffer₀ → e .string ≡ e .string₀
+        → Scored a e
+    overdrawn-call over = refused-by Draws (refused-last (scoreIn e) _ _ (a .draw) (sym none) fits over)
+
+    pub accepted-call : (g : Rng) (t : ℕ) → Total t ≡ sumOf left (scoreDraws (scoreIn e)) → g .0 ≡ stateAfter (a .rng .0) (scoreDraws (scoreIn e))
+        → e .answer ≡ record { session = record { rng = g; draw = a .draw + t }; outcome = Played t } → e .out ≡ scoreFrames (scoreIn e) (a .rng .0) 0
+        → drop (length (e .out₀)) (e .buffer) ≡ drop (length (e .out₀)) (e .buffer₀) → drop 9600 (e .string) ≡ drop 9600 (e .string₀) → Scored a e
+    accepted-call g t is = accepted-by (refused-not (scoreIn e) _ _ (a .draw) (sym none) fits t is) g t (total-exact left (scoreDraws (scoreIn e)) t is)
+
+-- the count after an accepted call fits
+pub draw-fits : (d D t : ℕ) → d < 2 ^ 64 → Total t ≡ sumOf (2 ^ 64 - 1 - d) D → d + t < 2 ^ 64
+draw-fits d D t fits is = omega (arith, total-exact (2 ^ 64 - 1 - d) D t is, total-fits (2 ^ 64 - 1 - d) D t is)
+
+-- what the parts of an accepted call ask for
+module _ (s : Score) (room string : ℕ) (none : 0 ≡ refusal s room string) where
+  pub draws-ask : Rate (s .seq .rate) × (Frames (s .n) × Clean s)
+  draws-ask = let acc = accepted-score s room string (sym none) in (acc .rate, (acc .frames, acc .clean))
+
+  pub play-asks : Rate (s .seq .rate) × (Frames (s .n) × (Clean s × ((s .n ≤ room) × (9600 ≤ string))))
+  play-asks = let acc = accepted-score s room string (sym none) in (acc .rate, (acc .frames, (acc .clean, (acc .buffered, acc .stringed))))
