@@ -17,6 +17,13 @@ mod libm;
 mod note_calls;
 mod random;
 mod reference;
+mod score;
+#[cfg(feature = "score")]
+mod score_calls;
+mod score_cases;
+#[cfg(feature = "score")]
+mod score_random;
+mod score_vectors;
 mod tried;
 mod vectors;
 mod voice_bench;
@@ -38,9 +45,11 @@ const USAGE: &str =
        compare libm [SCALE]      where the original's f32 kernels and libm part
        compare voices [COUNT]    COUNT notes of each wave, 10^5 by default
        compare notes [COUNT]     COUNT note calls of every outcome, 10^6 by default
+       compare scores [COUNT]    COUNT score calls in lists, 10^6 by default
        compare voice-bench       nanoseconds a sample of each wave, library and original
        compare groove-vectors    writes the replay files of crates/groove_vectors
-       compare voice-vectors     writes the replay files of crates/voice_vectors";
+       compare voice-vectors     writes the replay files of crates/voice_vectors
+       compare score-vectors     writes the replay files of crates/score_vectors";
 
 fn main() -> ExitCode {
     let words: Vec<String> = env::args().skip(1).collect();
@@ -58,11 +67,16 @@ fn main() -> ExitCode {
         ["voices", count] => counted(count, voices::run),
         ["notes"] => status(note_calls::run(note_calls::COUNT)),
         ["notes", count] => counted(count, note_calls::run),
+        #[cfg(feature = "score")]
+        ["scores"] => status(score_calls::run(score_calls::COUNT)),
+        #[cfg(feature = "score")]
+        ["scores", count] => counted(count, score_calls::run),
         ["voice-bench"] => done(voice_bench::run()),
         ["libm"] => done(libm::run(1)),
         ["libm", scale] => scaled(scale, |scale| done(libm::run(scale))),
         ["kernel-vectors"] => written(kernel_vectors::run()),
         ["voice-vectors"] => written(voice_vectors::run()),
+        ["score-vectors"] => written(score_vectors::run()),
         ["groove-vectors"] => written(groove_vectors::run()),
         _ => usage(),
     }

@@ -60,11 +60,11 @@ impl Case {
     fn spoil(&mut self, s: &mut Source) {
         match s.below(12) {
             0 => self.rate = s.pick(&[0, 7999, 192_001, u32::MAX]),
-            1 => spoil_one(&mut self.knobs, s),
+            1 => s.spoil_one(&mut self.knobs),
             2 => self.string = s.pick(&[0, 1, 9599]),
             3 => self.gain = s.not_sized(),
-            4 => spoil_one(&mut self.pitch, s),
-            5 => spoil_one(&mut self.duty, s),
+            4 => s.spoil_one(&mut self.pitch),
+            5 => s.spoil_one(&mut self.duty),
             6 => self.pitch.clear(),
             7 => {
                 self.pitch.clear();
@@ -127,14 +127,6 @@ impl Case {
             ("input", !(knobs.stays() && pitch.stays() && duty.stays())),
         ]);
         (reference::number(&called), differs)
-    }
-}
-
-/// One of the values, if there are any, is no sized number.
-fn spoil_one(values: &mut [f32], s: &mut Source) {
-    if !values.is_empty() {
-        let place = s.below(values.len() as u64) as usize;
-        values[place] = s.not_sized();
     }
 }
 

@@ -98,6 +98,14 @@ impl Source {
         f32::from_bits(self.pick(&patterns) | sign)
     }
 
+    /// Makes one of the values, if there are any, a number that isn't sized.
+    pub fn spoil_one(&mut self, values: &mut [f32]) {
+        if !values.is_empty() {
+            let place = self.below(values.len() as u64) as usize;
+            values[place] = self.not_sized();
+        }
+    }
+
     /// 22 sized knobs; those of the bass that are in hertz reach higher.
     pub fn knobs(&mut self) -> [f32; 22] {
         let mut knobs = [0.0; 22];

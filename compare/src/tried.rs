@@ -8,6 +8,7 @@ use std::time::Instant;
 #[derive(Default)]
 pub struct Tried {
     outcomes: BTreeMap<u32, u64>,
+    marked: BTreeMap<&'static str, u64>,
     differ: u64,
     lines: Vec<String>,
 }
@@ -23,9 +24,18 @@ impl Tried {
         }
     }
 
+    /// One more call of a kind that is worth a line.
+    #[cfg(feature = "score")]
+    pub fn mark(&mut self, kind: &'static str) {
+        *self.marked.entry(kind).or_default() += 1;
+    }
+
     fn join(mut self, other: Tried) -> Tried {
         for (number, count) in other.outcomes {
             *self.outcomes.entry(number).or_default() += count;
+        }
+        for (kind, count) in other.marked {
+            *self.marked.entry(kind).or_default() += count;
         }
         self.differ += other.differ;
         self.lines.extend(other.lines);
@@ -48,6 +58,9 @@ pub fn run(what: &str, share: impl Fn(u64) -> Tried + Sync) -> u64 {
             NO_CALL => println!("  {count:>8} not made"),
             number => println!("  {count:>8} refused with {number}"),
         }
+    }
+    for (kind, count) in &all.marked {
+        println!("  {count:>8} {kind}");
     }
     for line in all.lines.iter().take(SHOWN) {
         println!("  {line}");

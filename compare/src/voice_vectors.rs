@@ -71,7 +71,8 @@ fn cases() -> Vec<Case> {
     ]
 }
 
-fn hex(values: &[f32]) -> String {
+/// Patterns, each after a space.
+pub fn hex(values: &[f32]) -> String {
     values
         .iter()
         .map(|x| format!(" {:08x}", x.to_bits()))
@@ -79,7 +80,7 @@ fn hex(values: &[f32]) -> String {
 }
 
 /// A sample as the replay prints it, one for every NaN; the test is on the bits.
-fn sample(x: f32) -> String {
+pub fn sample(x: f32) -> String {
     let bits = x.to_bits();
     let is_nan = bits & 0x7fff_ffff > 0x7f80_0000;
     format!(" {:08x}", if is_nan { 0x7fc0_0000 } else { bits })
