@@ -4,11 +4,11 @@ use std::sync::atomic::{AtomicU64, Ordering};
 use std::thread;
 use std::time::Instant;
 
-const THREADS: usize = 2;
+pub const THREADS: usize = 2;
 /// How many cases a thread takes at a time.
 const CHUNK: u64 = 1 << 16;
 /// How many differing cases of a function are printed.
-const SHOWN: usize = 5;
+pub const SHOWN: usize = 5;
 
 /// A result that is compared bit for bit, where one NaN counts as any other.
 pub trait Answer: Copy {
@@ -61,6 +61,26 @@ impl<A: Answer, B: Answer> Answer for (A, B) {
     }
 }
 
+/// Whether two runs of values are the same, NaNs counting as one; the first place where they part.
+pub fn same_values(ours: &[f32], theirs: &[f32]) -> Result<(), usize> {
+    let pairs = ours.iter().zip(theirs);
+    match pairs.enumerate().find(|(_, (a, b))| !a.same(**b)) {
+        Some((i, _)) => Err(i),
+        None if ours.len() != theirs.len() => Err(ours.len().min(theirs.len())),
+        None => Ok(()),
+    }
+}
+
+/// What each thread's share of a work gives; the work is handed the thread's number.
+pub fn in_threads<R: Send>(work: impl Fn(u64) -> R + Sync) -> Vec<R> {
+    let work = &work;
+    thread::scope(|scope| {
+        let spawn = |t| scope.spawn(move || work(t));
+        let threads: Vec<_> = (0..THREADS as u64).map(spawn).collect();
+        threads.into_iter().map(|t| t.join().unwrap()).collect()
+    })
+}
+
 /// What is tried of one function: `count` cases, of which `case` makes number i.
 pub struct Cases<C> {
     pub count: u64,
@@ -83,11 +103,7 @@ pub fn compare<X: Answer, A: Answer>(
 ) -> u64 {
     let begun = Instant::now();
     let next = AtomicU64::new(0);
-    let share = || compare_share(&next, cases, &library, &rust);
-    let shares: Vec<Differing> = thread::scope(|scope| {
-        let threads: Vec<_> = (0..THREADS).map(|_| scope.spawn(share)).collect();
-        threads.into_iter().map(|t| t.join().unwrap()).collect()
-    });
+    let shares = in_threads(|_| compare_share(&next, cases, &library, &rust));
     let seconds = begun.elapsed().as_secs_f64();
     let differ = shares.iter().map(|d| d.count).sum();
     let count = cases.count;

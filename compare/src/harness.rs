@@ -33,50 +33,144 @@ unsafe extern "C" {
 
 mod raw {
     unsafe extern "C" {
-        pub fn h_voice(
+        pub fn h_note(
+            rate: u32,
             wave: u32,
             knobs: *const f32,
             knobs_len: usize,
             gain: f32,
-            rate: u32,
-            state: u64,
+            state: *mut u64,
+            draws: *mut u64,
             pitch: *const f32,
             pitch_len: usize,
             duty: *const f32,
             duty_len: usize,
             out: *mut f32,
             out_len: usize,
-        ) -> u64;
+            string: *mut f32,
+            string_len: usize,
+        ) -> u32;
+
+        #[cfg(feature = "score")]
+        pub fn h_score(
+            state: *mut u64,
+            draw: *mut u64,
+            draws: *mut u64,
+            rate: u32,
+            tempo: f32,
+            steps_per_beat: u32,
+            swing: f32,
+            humanize: f32,
+            wave: u32,
+            duty: f32,
+            knobs: *const f32,
+            knobs_len: usize,
+            env: *const f32,
+            env_len: usize,
+            notes: *const u32,
+            notes_len: usize,
+            lane: *const f32,
+            lane_len: usize,
+            out: *mut f32,
+            out_len: usize,
+            note_buf: *mut f32,
+            note_buf_len: usize,
+            string: *mut f32,
+            string_len: usize,
+        ) -> u32;
     }
 }
 
-/// Fills `out` with a voice's frames, and answers the generator's state after them.
-#[allow(clippy::too_many_arguments)]
-pub fn h_voice(
-    wave: u32,
-    knobs: &[f32],
-    gain: f32,
-    rate: u32,
-    state: u64,
-    pitch: &[f32],
-    duty: &[f32],
-    out: &mut [f32],
-) -> u64 {
+/// What a note call takes: numbers, values to read, and what it is lent.
+pub struct NoteArgs<'a> {
+    pub rate: u32,
+    pub wave: u32,
+    pub knobs: &'a [f32],
+    pub gain: f32,
+    pub state: &'a mut u64,
+    pub draws: &'a mut u64,
+    pub pitch: &'a [f32],
+    pub duty: &'a [f32],
+    pub out: &'a mut [f32],
+    pub string: &'a mut [f32],
+}
+
+/// The note call: a refusal's number, 0, or 4294967295 where no call is made.
+pub fn h_note(args: NoteArgs) -> u32 {
     // Each pointer and length are those of a slice, which is what the function takes.
     unsafe {
-        raw::h_voice(
-            wave,
-            knobs.as_ptr(),
-            knobs.len(),
-            gain,
-            rate,
-            state,
-            pitch.as_ptr(),
-            pitch.len(),
-            duty.as_ptr(),
-            duty.len(),
-            out.as_mut_ptr(),
-            out.len(),
+        raw::h_note(
+            args.rate,
+            args.wave,
+            args.knobs.as_ptr(),
+            args.knobs.len(),
+            args.gain,
+            args.state,
+            args.draws,
+            args.pitch.as_ptr(),
+            args.pitch.len(),
+            args.duty.as_ptr(),
+            args.duty.len(),
+            args.out.as_mut_ptr(),
+            args.out.len(),
+            args.string.as_mut_ptr(),
+            args.string.len(),
+        )
+    }
+}
+
+/// What a score call takes: the session, numbers, values to read, and what it is lent.
+#[cfg(feature = "score")]
+pub struct ScoreArgs<'a> {
+    pub state: &'a mut u64,
+    pub draw: &'a mut u64,
+    pub draws: &'a mut u64,
+    pub rate: u32,
+    pub tempo: f32,
+    pub steps_per_beat: u32,
+    pub swing: f32,
+    pub humanize: f32,
+    pub wave: u32,
+    pub duty: f32,
+    pub knobs: &'a [f32],
+    pub env: &'a [f32],
+    pub notes: &'a [u32],
+    pub lane: &'a [f32],
+    pub out: &'a mut [f32],
+    pub note_buf: &'a mut [f32],
+    pub string: &'a mut [f32],
+}
+
+/// The score call: a refusal's number, 0, or 4294967295 where no call is made.
+#[cfg(feature = "score")]
+pub fn h_score(args: ScoreArgs) -> u32 {
+    // As above.
+    unsafe {
+        raw::h_score(
+            args.state,
+            args.draw,
+            args.draws,
+            args.rate,
+            args.tempo,
+            args.steps_per_beat,
+            args.swing,
+            args.humanize,
+            args.wave,
+            args.duty,
+            args.knobs.as_ptr(),
+            args.knobs.len(),
+            args.env.as_ptr(),
+            args.env.len(),
+            args.notes.as_ptr(),
+            args.notes.len(),
+            args.lane.as_ptr(),
+            args.lane.len(),
+            args.out.as_mut_ptr(),
+            args.out.len(),
+            args.note_buf.as_mut_ptr(),
+            args.note_buf.len(),
+            args.string.as_mut_ptr(),
+            args.string.len(),
         )
     }
 }

@@ -12,12 +12,24 @@ mod helpers;
 mod kernel_bench;
 mod kernel_vectors;
 mod kernels;
+mod lent;
 mod libm;
+mod note_calls;
 mod random;
+mod reference;
+mod score;
+#[cfg(feature = "score")]
+mod score_calls;
+mod score_cases;
+#[cfg(feature = "score")]
+mod score_random;
+mod score_vectors;
+mod tried;
 mod vectors;
 mod voice_bench;
 mod voice_vectors;
 mod voices;
+mod waves;
 
 use std::env;
 use std::process::ExitCode;
@@ -32,59 +44,62 @@ const USAGE: &str =
        compare kernel-vectors    writes the replay files of crates/det_vectors
        compare libm [SCALE]      where the original's f32 kernels and libm part
        compare voices [COUNT]    COUNT notes of each wave, 10^5 by default
+       compare notes [COUNT]     COUNT note calls of every outcome, 10^6 by default
+       compare scores [COUNT]    COUNT score calls in lists, 10^6 by default
        compare voice-bench       nanoseconds a sample of each wave, library and original
        compare groove-vectors    writes the replay files of crates/groove_vectors
-       compare voice-vectors     writes the replay files of crates/voice_vectors";
+       compare voice-vectors     writes the replay files of crates/voice_vectors
+       compare score-vectors     writes the replay files of crates/score_vectors";
 
 fn main() -> ExitCode {
     let words: Vec<String> = env::args().skip(1).collect();
     let words: Vec<&str> = words.iter().map(String::as_str).collect();
     match words.as_slice() {
         ["helpers"] => status(helpers::run(1)),
-        ["helpers", scale] => match scale.parse() {
-            Ok(scale) if scale > 0 => status(helpers::run(scale)),
-            _ => usage(),
-        },
-        ["bench"] => {
-            bench::run();
-            ExitCode::SUCCESS
-        }
+        ["helpers", scale] => scaled(scale, |scale| status(helpers::run(scale))),
+        ["bench"] => done(bench::run()),
         ["vectors"] => written(vectors::run()),
         ["kernels"] => status(kernels::run(kernels::COUNT)),
         ["kernels", "all"] => status(kernels::run_all()),
-        ["kernels", count] => match count.parse() {
-            Ok(count) => status(kernels::run(count)),
-            Err(_) => usage(),
-        },
-        ["kernel-bench"] => {
-            kernel_bench::run();
-            ExitCode::SUCCESS
-        }
+        ["kernels", count] => counted(count, kernels::run),
+        ["kernel-bench"] => done(kernel_bench::run()),
         ["voices"] => status(voices::run(voices::COUNT)),
-        ["voices", count] => match count.parse() {
-            Ok(count) => status(voices::run(count)),
-            Err(_) => usage(),
-        },
-        ["voice-bench"] => {
-            voice_bench::run();
-            ExitCode::SUCCESS
-        }
-        ["libm"] => {
-            libm::run(1);
-            ExitCode::SUCCESS
-        }
-        ["libm", scale] => match scale.parse() {
-            Ok(scale) if scale > 0 => {
-                libm::run(scale);
-                ExitCode::SUCCESS
-            }
-            _ => usage(),
-        },
+        ["voices", count] => counted(count, voices::run),
+        ["notes"] => status(note_calls::run(note_calls::COUNT)),
+        ["notes", count] => counted(count, note_calls::run),
+        #[cfg(feature = "score")]
+        ["scores"] => status(score_calls::run(score_calls::COUNT)),
+        #[cfg(feature = "score")]
+        ["scores", count] => counted(count, score_calls::run),
+        ["voice-bench"] => done(voice_bench::run()),
+        ["libm"] => done(libm::run(1)),
+        ["libm", scale] => scaled(scale, |scale| done(libm::run(scale))),
         ["kernel-vectors"] => written(kernel_vectors::run()),
         ["voice-vectors"] => written(voice_vectors::run()),
+        ["score-vectors"] => written(score_vectors::run()),
         ["groove-vectors"] => written(groove_vectors::run()),
         _ => usage(),
     }
+}
+
+/// A run of `count` cases, which answers how many differ.
+fn counted(count: &str, run: impl Fn(u64) -> u64) -> ExitCode {
+    match count.parse() {
+        Ok(count) => status(run(count)),
+        Err(_) => usage(),
+    }
+}
+
+/// A run of one case in `scale`.
+fn scaled(scale: &str, run: impl Fn(u64) -> ExitCode) -> ExitCode {
+    match scale.parse() {
+        Ok(scale) if scale > 0 => run(scale),
+        _ => usage(),
+    }
+}
+
+fn done(_: ()) -> ExitCode {
+    ExitCode::SUCCESS
 }
 
 fn status(differ: u64) -> ExitCode {

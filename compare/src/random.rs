@@ -2,6 +2,11 @@
 
 const GOLDEN_GAMMA: u64 = 0x9E37_79B9_7F4A_7C15;
 
+/// The state of `seed`'s generator after `count` draws.
+pub fn state_at(seed: u64, count: u64) -> u64 {
+    seed.wrapping_add(count.wrapping_mul(GOLDEN_GAMMA))
+}
+
 /// The draw from a state.
 pub fn draw(state: u64) -> u64 {
     let mut z = state.wrapping_add(GOLDEN_GAMMA);
@@ -13,10 +18,115 @@ pub fn draw(state: u64) -> u64 {
 /// Draw number `index` of `seed`, counted from 0, so that every case can be made again from its
 /// number alone.
 pub fn draw_at(seed: u64, index: u64) -> u64 {
-    draw(seed.wrapping_add(index.wrapping_mul(GOLDEN_GAMMA)))
+    draw(state_at(seed, index))
 }
 
 /// From 0 up to but not at 1.
 pub fn unit(seed: u64, index: u64) -> f64 {
     (draw_at(seed, index) >> 11) as f64 / (1u64 << 53) as f64
+}
+
+/// A stream of numbers for one case, made from the case's number alone.
+pub struct Source {
+    seed: u64,
+    next: u64,
+}
+
+impl Source {
+    pub fn new(seed: u64) -> Source {
+        Source { seed, next: 0 }
+    }
+
+    pub fn number(&mut self) -> u64 {
+        self.next += 1;
+        draw_at(self.seed, self.next)
+    }
+
+    pub fn below(&mut self, n: u64) -> u64 {
+        self.number() % n
+    }
+
+    pub fn pick<T: Copy>(&mut self, from: &[T]) -> T {
+        from[self.below(from.len() as u64) as usize]
+    }
+
+    pub fn unit(&mut self) -> f32 {
+        (self.number() >> 40) as f32 / 16777216.0
+    }
+
+    pub fn between(&mut self, low: f32, high: f32) -> f32 {
+        low + (high - low) * self.unit()
+    }
+
+    /// Of the domain: often a usual rate, otherwise any.
+    pub fn rate(&mut self) -> u32 {
+        match self.below(3) {
+            0 => 8000 + self.below(184_001) as u32,
+            _ => self.pick(&[8000, 22050, 44100, 48000, 96000, 192000]),
+        }
+    }
+
+    /// A sized number: often an odd one, otherwise from `low` to `high`.
+    pub fn sized(&mut self, low: f32, high: f32) -> f32 {
+        match self.below(8) {
+            0 => self.odd(),
+            1 => self.between(-65536.0, 65536.0),
+            _ => self.between(low, high),
+        }
+    }
+
+    /// Zeros, ones, the ends of what is sized, subnormals and small numbers.
+    fn odd(&mut self) -> f32 {
+        let tiny = f32::from_bits(self.below(0x0080_0000) as u32);
+        let small = self.between(-0.01, 0.01);
+        self.pick(&[0.0, -0.0, 1.0, -1.0, 65536.0, -65536.0, tiny, -tiny, small])
+    }
+
+    /// A number that isn't sized: NaNs, the infinities, the next above 65,536, the largest, any.
+    pub fn not_sized(&mut self) -> f32 {
+        let above = 0x4780_0001 + self.below(0x387f_ffff) as u32;
+        let sign = (self.below(2) as u32) << 31;
+        let nan = 0x7f80_0001 + self.below(0x007f_ffff) as u32;
+        let patterns = [
+            0x7f80_0000,
+            0x7fc0_0000,
+            nan,
+            0x4780_0001,
+            0x7f7f_ffff,
+            above,
+        ];
+        f32::from_bits(self.pick(&patterns) | sign)
+    }
+
+    /// Makes one of the values, if there are any, a number that isn't sized.
+    pub fn spoil_one(&mut self, values: &mut [f32]) {
+        if !values.is_empty() {
+            let place = self.below(values.len() as u64) as usize;
+            values[place] = self.not_sized();
+        }
+    }
+
+    /// 22 sized knobs; those of the bass that are in hertz reach higher.
+    pub fn knobs(&mut self) -> [f32; 22] {
+        let mut knobs = [0.0; 22];
+        for knob in knobs.iter_mut() {
+            *knob = self.sized(0.0, 2.0);
+        }
+        for k in [12, 13, 14, 16] {
+            knobs[k] = self.sized(0.0, 3000.0);
+        }
+        knobs
+    }
+
+    /// A number at every frame, a glide, or anything.
+    pub fn curve(&mut self, n: usize, low: f32, high: f32) -> Vec<f32> {
+        let (from, to) = (self.sized(low, high), self.sized(low, high));
+        match self.below(4) {
+            0 => (0..n)
+                .map(|i| from + (to - from) * (i as f32 / n as f32))
+                .collect(),
+            1 => (0..n).map(|_| self.sized(low, high)).collect(),
+            _ => vec![from; n],
+        }
+    }
 }

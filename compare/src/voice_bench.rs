@@ -1,7 +1,8 @@
 //! Nanoseconds a sample of each wave, library and original.
 
 use crate::voice_vectors::USUAL;
-use crate::voices::{Note, WAVES};
+use crate::voices::Note;
+use crate::waves::WAVES;
 use std::hint::black_box;
 use std::time::Instant;
 use tono::dsl::SeqWave;
@@ -24,16 +25,17 @@ fn ordinary() -> Note {
 }
 
 /// The time of one note, in nanoseconds a sample.
-fn time<R>(play: impl Fn() -> R) -> f64 {
+fn time<R>(play: impl FnOnce() -> R) -> f64 {
     let begun = Instant::now();
     black_box(play());
     begun.elapsed().as_nanos() as f64 / FRAMES as f64
 }
 
 fn row(note: &Note, place: u32, name: &str, wave: SeqWave) -> f64 {
+    let mut string = vec![0.0; 9600];
     let (mut ours, mut theirs) = (f64::INFINITY, f64::INFINITY);
     for _ in 0..ROUNDS {
-        ours = ours.min(time(|| note.ours(place)));
+        ours = ours.min(time(|| note.ours(place, &mut string)));
         theirs = theirs.min(time(|| note.theirs(wave)));
     }
     let ratio = ours / theirs;

@@ -1,13 +1,14 @@
 //! The replay files of crates/voice_vectors: notes of every wave, with the original's samples.
 
-use crate::voices::{Note, WAVES};
+use crate::random::{draw, draw_at, state_at};
+use crate::voices::Note;
+use crate::waves::WAVES;
 use std::fs;
 use std::io;
 use std::path::Path;
 use tono::dsl::SeqWave;
 
 const FOLDER: &str = concat!(env!("CARGO_MANIFEST_DIR"), "/../crates/voice_vectors");
-const GAMMA: u64 = 0x9E37_79B9_7F4A_7C15;
 
 /// Ordinary knobs, in the order fm, pluck, piano, bass.
 pub const USUAL: [f32; 22] = [
@@ -70,7 +71,8 @@ fn cases() -> Vec<Case> {
     ]
 }
 
-fn hex(values: &[f32]) -> String {
+/// Patterns, each after a space.
+pub fn hex(values: &[f32]) -> String {
     values
         .iter()
         .map(|x| format!(" {:08x}", x.to_bits()))
@@ -78,7 +80,7 @@ fn hex(values: &[f32]) -> String {
 }
 
 /// A sample as the replay prints it, one for every NaN; the test is on the bits.
-fn sample(x: f32) -> String {
+pub fn sample(x: f32) -> String {
     let bits = x.to_bits();
     let is_nan = bits & 0x7fff_ffff > 0x7f80_0000;
     format!(" {:08x}", if is_nan { 0x7fc0_0000 } else { bits })
@@ -100,11 +102,8 @@ fn answer(case: &Case, place: u32, wave: SeqWave, state: u64) -> (String, String
         duty: prolonged(&case.duty, case.frames),
     };
     let (samples, next) = note.theirs(wave);
-    let draws = (0..20_000u64).find(|&c| {
-        let state = state.wrapping_add(c.wrapping_mul(GAMMA));
-        crate::random::draw(state) == next
-    });
-    let after = state.wrapping_add(draws.expect("a note draws less").wrapping_mul(GAMMA));
+    let draws = (0..20_000).find(|&c| draw(state_at(state, c)) == next);
+    let after = state_at(state, draws.expect("a note draws less"));
     let line = format!(
         "note {place:08x} {:08x} {:08x} {state:016x} {:04x} {:04x}{}{}{}",
         case.rate,
@@ -124,7 +123,7 @@ pub fn run() -> io::Result<()> {
     let (mut stdin, mut stdout) = (String::new(), String::new());
     for (place, _, wave) in WAVES {
         for (i, case) in cases().iter().enumerate() {
-            let state = crate::random::draw_at(7, (place as u64) * 100 + i as u64);
+            let state = draw_at(7, (place as u64) * 100 + i as u64);
             let (line, answer) = answer(case, place, wave, state);
             stdin += &format!("{line}\n");
             stdout += &format!("{line}{answer}\n");

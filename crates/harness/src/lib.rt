@@ -2,6 +2,7 @@
 // is the equation of the function that is called. No customer links this.
 mod helpers; // helpers.rt: the float helpers and the generator
 mod kernels; // kernels.rt: the kernels of det
-mod voices; // voices.rt: the voices
+mod knobs; // knobs.rt: a voice from a wave's place and knobs
+mod notes; // notes.rt: the note call
 
-pub use voices::h_voice;
+pub use notes::h_note;

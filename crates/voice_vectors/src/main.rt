@@ -53,23 +53,27 @@ fn play(line: &[u8], frames: usize, count: usize)
     let wave = (vectors::u64_field(line, 1) % 0x1_0000_0000) as u32;
     let rate = (vectors::u64_field(line, 2) % 0x1_0000_0000) as u32;
     let gain = vectors::f32_field(line, 3);
-    let state = vectors::u64_field(line, 4);
+    let mut state = vectors::u64_field(line, 4);
     let pitch = values(line, 7, count);
     let duty = values(line, 7 + count, count);
     let set = knobs(line, 7 + 2 * count);
+    let mut draws = 0u64;
     let mut out = [0.0f32; 128];
-    let after = harness::h_voice(
+    let mut string = [0.0f32; 9600];
+    harness::h_note(
+        rate,
         wave,
         &set,
         gain,
-        rate,
-        state,
-        &pitch,
-        &duty,
+        &mut state,
+        &mut draws,
+        &pitch[..frames],
+        &duty[..frames],
         &mut out[..frames],
+        &mut string,
     );
     print_samples(&out, frames);
-    vectors::print_u64(after);
+    vectors::print_u64(state);
 }
 
 // A line whose numbers are out of range gets no answer.

@@ -1,3 +1,4 @@
+-- `voice_vectors::play` is safe. Assumes nothing.
 use mathlib.Core.Path.{sym}
 use lib.Seq.{length-take-le}
 use borrow.Author.Needs.{needs}
@@ -40,24 +41,32 @@ add-knobs c = search needs
 knobs-requires : tie.Need-knobs-requires
 knobs-requires c κs = search needs
 
-slice-aggregate-h-voice : tie.Need-slice-aggregate-h-voice
-slice-aggregate-h-voice c = search needs
+slice-aggregate-h-note : tie.Need-slice-aggregate-h-note
+slice-aggregate-h-note c = search needs
 
-slice-aggregate-h-voice-2 : tie.Need-slice-aggregate-h-voice-2
-slice-aggregate-h-voice-2 c = search needs
+array-share-prefix-pitch : tie.Need-array-share-prefix-pitch
+array-share-prefix-pitch c = search needs
 
-slice-aggregate-h-voice-3 : tie.Need-slice-aggregate-h-voice-3
-slice-aggregate-h-voice-3 c = search needs
+slice-aggregate-h-note-2 : tie.Need-slice-aggregate-h-note-2
+slice-aggregate-h-note-2 c = sym (length-take-le (c .before .before .before .before .before .before .before .before .before .before .before .before .args .frames) (c .before .before .before .before .before .before .values .result) (search needs))
+
+array-share-prefix-duty : tie.Need-array-share-prefix-duty
+array-share-prefix-duty c = search needs
+
+slice-aggregate-h-note-3 : tie.Need-slice-aggregate-h-note-3
+slice-aggregate-h-note-3 c = sym (length-take-le (c .before .before .before .before .before .before .before .before .before .before .before .before .before .args .frames) (c .before .before .before .before .before .before .values2 .result) (search needs))
 
 array-borrow-prefix-out : tie.Need-array-borrow-prefix-out
 array-borrow-prefix-out c = search needs
 
-slice-aggregate-h-voice-4 : tie.Need-slice-aggregate-h-voice-4
-slice-aggregate-h-voice-4 c =
-    sym (length-take-le _ _ (c .before .before .before .before .before .before .before .before .before .before .before .before .pre .2))
+slice-aggregate-h-note-4 : tie.Need-slice-aggregate-h-note-4
+slice-aggregate-h-note-4 c = sym (length-take-le _ _ (c .before .before .before .before .before .before .before .before .before .before .before .before .before .before .pre .2))
 
-h-voice-requires : tie.Need-h-voice-requires
-h-voice-requires c κs = search needs
+slice-aggregate-h-note-5 : tie.Need-slice-aggregate-h-note-5
+slice-aggregate-h-note-5 c = search needs
+
+h-note-requires : tie.Need-h-note-requires
+h-note-requires c κs = search needs
 
 print-samples-requires : tie.Need-print-samples-requires
 print-samples-requires c κs = search needs
@@ -84,12 +93,15 @@ play-spec =
     mul-knobs
     add-knobs
     knobs-requires
-    slice-aggregate-h-voice
-    slice-aggregate-h-voice-2
-    slice-aggregate-h-voice-3
+    slice-aggregate-h-note
+    array-share-prefix-pitch
+    slice-aggregate-h-note-2
+    array-share-prefix-duty
+    slice-aggregate-h-note-3
     array-borrow-prefix-out
-    slice-aggregate-h-voice-4
-    h-voice-requires
+    slice-aggregate-h-note-4
+    slice-aggregate-h-note-5
+    h-note-requires
     print-samples-requires
     print-u64-requires
     returns)

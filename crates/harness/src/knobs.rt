@@ -1,17 +1,24 @@
-// A note call, from a generator's state.
+// The voice of a wave's place and of 22 knobs.
 ghost use mathlib.Core.Path.{_≡_};
 ghost use lib.ListN.{length};
+ghost use Rattle.harness.specs.Knobs.{fmOf, pluckOf, pianoOf, bassOf, voiceAt};
 use dsl::BassKnobs;
 use dsl::FmKnobs;
 use dsl::PianoKnobs;
 use dsl::PluckKnobs;
 use dsl::SeqWave;
 use dsl::WaveAt;
-use dsp::Rng;
 use voice::SeqVoice;
+
+// A voice, or nothing where there is no such wave or there are not 22 knobs.
+pub enum VoiceAt {
+    Voice(SeqVoice),
+    Nothing,
+}
 
 fn fm_knobs(k: &[f32]) -> FmKnobs
     requires { ⌜ length (now k) ≡ 22 ⌝ }
+    ensures { λ r. ⌜ r ≡ fmOf (now (k .entry)) ⌝ }
 {
     FmKnobs {
         fm_ratio: k[0],
@@ -22,6 +29,7 @@ fn fm_knobs(k: &[f32]) -> FmKnobs
 
 fn pluck_knobs(k: &[f32]) -> PluckKnobs
     requires { ⌜ length (now k) ≡ 22 ⌝ }
+    ensures { λ r. ⌜ r ≡ pluckOf (now (k .entry)) ⌝ }
 {
     PluckKnobs {
         pluck_decay: k[3],
@@ -33,6 +41,7 @@ fn pluck_knobs(k: &[f32]) -> PluckKnobs
 
 fn piano_knobs(k: &[f32]) -> PianoKnobs
     requires { ⌜ length (now k) ≡ 22 ⌝ }
+    ensures { λ r. ⌜ r ≡ pianoOf (now (k .entry)) ⌝ }
 {
     PianoKnobs {
         piano_hammer: k[7],
@@ -45,6 +54,7 @@ fn piano_knobs(k: &[f32]) -> PianoKnobs
 
 fn bass_knobs(k: &[f32]) -> BassKnobs
     requires { ⌜ length (now k) ≡ 22 ⌝ }
+    ensures { λ r. ⌜ r ≡ bassOf (now (k .entry)) ⌝ }
 {
     BassKnobs {
         bass_cutoff: k[12],
@@ -60,45 +70,24 @@ fn bass_knobs(k: &[f32]) -> BassKnobs
     }
 }
 
-// The state after a note call, which fills `out`, on a string of its own and on as much of `pitch` and
-// `duty`. Where the call is refused, there is no such wave, a slice is too short or there are not 22
-// knobs, nothing is filled, and the answer is the state that was handed in.
-#[no_mangle]
-pub extern "C" fn h_voice(
-    wave: u32,
-    knobs: &[f32],
-    gain: f32,
-    rate: u32,
-    state: u64,
-    pitch: &[f32],
-    duty: &[f32],
-    out: &mut [f32],
-) -> u64 {
+pub fn voice_at(wave: u32, knobs: &[f32]) -> VoiceAt
+    ensures { λ r. ⌜ r ≡ voiceAt wave (now (knobs .entry)) ⌝ }
+{
     if knobs.len() != 22 {
-        return state;
-    }
-    let n = out.len();
-    if n > pitch.len() {
-        return state;
-    }
-    if n > duty.len() {
-        return state;
+        return VoiceAt::Nothing;
     }
     let WaveAt::Wave(wave) = SeqWave::at(wave) else {
-        return state;
+        return VoiceAt::Nothing;
     };
-    let voice = SeqVoice {
+    let fm = fm_knobs(knobs);
+    let pluck = pluck_knobs(knobs);
+    let piano = piano_knobs(knobs);
+    let bass = bass_knobs(knobs);
+    VoiceAt::Voice(SeqVoice {
         wave,
-        fm: fm_knobs(knobs),
-        pluck: pluck_knobs(knobs),
-        piano: piano_knobs(knobs),
-        bass: bass_knobs(knobs),
-    };
-    let mut string = [0.0f32; 9600];
-    let rng = Rng::new(state);
-    let pitch = &pitch[..n];
-    let duty = &duty[..n];
-    let answer = note::seq_note_signal(rng, rate, voice, gain, pitch, duty, out, &mut string);
-    let after = answer.rng;
-    after.state()
+        fm,
+        pluck,
+        piano,
+        bass,
+    })
 }

@@ -1,0 +1,315 @@
+//! What document 01 asks of a note call and of a list of score calls, with the original's voices,
+//! groove and mix for the sound. Nothing here comes from the library. Words in quotes are 01's.
+
+use crate::random::{draw, state_at};
+use crate::waves::{envelope, voice_of, wave_at};
+use tono::dsl::{SeqNote, SeqWave, Value};
+use tono::dsp::Rng;
+use tono::render::seq::shim::{groove, note_signal, render, Voice};
+
+/// "n at most 16,777,216; 0 is accepted."
+const MOST_FRAMES: usize = 16_777_216;
+/// "string buffer shorter than 9,600 values"
+const STRING: usize = 9600;
+/// C's answer where no call is made: there are not 22 knobs, or not 5 numbers of an envelope, or the
+/// wave is not one of the 17.
+pub const NO_CALL: u32 = u32::MAX;
+
+/// What a call comes to. "A refusal returns its number and 0 draws and changes nothing."
+pub enum Outcome {
+    Refused(u32),
+    Accepted { draws: u64, frames: Vec<f32> },
+}
+
+/// A call from C: `None` where none is made.
+pub type Called = Option<Outcome>;
+
+/// A refusal's number, 0 for an accepted call.
+pub fn number(called: &Called) -> u32 {
+    match called {
+        None => NO_CALL,
+        Some(Outcome::Refused(number)) => *number,
+        Some(Outcome::Accepted { .. }) => 0,
+    }
+}
+
+/// The draws of an accepted call, otherwise 0.
+pub fn made(called: &Called) -> u64 {
+    match called {
+        Some(Outcome::Accepted { draws, .. }) => *draws,
+        _ => 0,
+    }
+}
+
+/// The frames of an accepted call.
+pub fn frames(called: &Called) -> Option<&[f32]> {
+    match called {
+        Some(Outcome::Accepted { frames, .. }) => Some(frames),
+        _ => None,
+    }
+}
+
+/// A note call: its numbers and values, and how long the output and the string buffer are.
+pub struct NoteCall<'a> {
+    pub rate: u32,
+    pub wave: u32,
+    pub knobs: &'a [f32],
+    pub gain: f32,
+    pub state: u64,
+    pub pitch: &'a [f32],
+    pub duty: &'a [f32],
+    pub out: usize,
+    pub string: usize,
+}
+
+pub fn note_call(call: &NoteCall) -> Called {
+    let knobs = call.knobs.try_into().ok()?;
+    let wave = wave_at(call.wave)?;
+    Some(match note_refusal(call) {
+        Some(number) => Outcome::Refused(number),
+        None => note_played(call, wave, knobs),
+    })
+}
+
+/// "note call only, in the order 1, 2, 6, 21, 10, 13, 14: 10 gain, or a pitch or duty value, not
+/// sized; 13 pitch empty; 14 pitch, duty and output differ in length; 2 judges the output's length";
+/// 6 "in a note call: a knob only"
+fn note_refusal(call: &NoteCall) -> Option<u32> {
+    let (pitch, duty) = (call.pitch, call.duty);
+    first(&[
+        (1, !is_rate(call.rate)),
+        (2, call.out > MOST_FRAMES),
+        (6, !all_sized(call.knobs)),
+        (21, call.string < STRING),
+        (
+            10,
+            !is_sized(call.gain) || !all_sized(pitch) || !all_sized(duty),
+        ),
+        (13, pitch.is_empty()),
+        (14, pitch.len() != duty.len() || pitch.len() != call.out),
+    ])
+}
+
+/// "An accepted note call reports e, demand 3's draws with every frame of its output sounded, and
+/// hands back its state + e × G modulo 2^64."
+fn note_played(call: &NoteCall, wave: SeqWave, knobs: &[f32; 22]) -> Outcome {
+    let mut rng = Rng::new(call.state);
+    let voice = voice_of(wave, knobs);
+    let frames = note_signal(
+        &voice, call.gain, call.pitch, call.duty, call.rate, &mut rng,
+    );
+    let draws = draws_of(wave, call.rate, call.pitch[0], call.out);
+    moved(rng, call.state, draws);
+    Outcome::Accepted { draws, frames }
+}
+
+/// The original's generator has gone as far as the count says: no two states have one next draw.
+fn moved(mut rng: Rng, state: u64, draws: u64) {
+    let next = draw(state_at(state, draws));
+    assert_eq!(
+        rng.next_u64(),
+        next,
+        "the original did not make {draws} draws from {state:016x}"
+    );
+}
+
+/// The first refusal that applies.
+fn first(tests: &[(u32, bool)]) -> Option<u32> {
+    tests.iter().find(|t| t.1).map(|t| t.0)
+}
+
+/// "Rate 8,000 to 192,000."
+fn is_rate(rate: u32) -> bool {
+    (8000..=192_000).contains(&rate)
+}
+
+/// ""Sized" means finite and of magnitude at most 65,536"
+fn is_sized(x: f32) -> bool {
+    x.is_finite() && x.abs() <= 65536.0
+}
+
+fn all_sized(values: &[f32]) -> bool {
+    values.iter().all(|&x| is_sized(x))
+}
+
+/// Demand 3's draws of a note: noise and flute one a frame, pluck one for each value of its string,
+/// piano in the frames before 0.006 seconds, which are 3 / 500 of the rate, rounded up.
+fn draws_of(wave: SeqWave, rate: u32, first_pitch: f32, frames: usize) -> u64 {
+    match wave {
+        SeqWave::Noise | SeqWave::Flute => frames as u64,
+        SeqWave::Pluck => string_period(rate, first_pitch),
+        SeqWave::Piano => (frames as u64).min((3 * rate as u64).div_ceil(500)),
+        _ => 0,
+    }
+}
+
+/// "The string period is rate / clamp(first pitch, 20, rate / 2), divided in f32, rounded half away
+/// from zero, at least 2."
+fn string_period(rate: u32, first_pitch: f32) -> u64 {
+    let rate = rate as f32;
+    let period = (rate / first_pitch.clamp(20.0, rate / 2.0)).round();
+    (period as u64).max(2)
+}
+
+/// A score call: its numbers and values, and how long the output, the note buffer and the string
+/// buffer are.
+pub struct ScoreCall<'a> {
+    pub rate: u32,
+    pub tempo: f32,
+    pub steps_per_beat: u32,
+    pub swing: f32,
+    pub humanize: f32,
+    pub wave: u32,
+    pub duty: f32,
+    pub knobs: &'a [f32],
+    pub env: &'a [f32],
+    pub words: &'a [u32],
+    pub lane: &'a [f32],
+    pub out: usize,
+    pub note_buf: usize,
+    pub string: usize,
+}
+
+/// "The tally holds s and a count d, at first c."
+pub struct Tally {
+    pub seed: u64,
+    pub draw: u64,
+}
+
+impl Tally {
+    /// "its generator stands at s + d × G modulo 2^64"
+    pub fn state(&self) -> u64 {
+        state_at(self.seed, self.draw)
+    }
+
+    /// "Refused: the first refusal that applies gives the number. It reports 0 draws and d stays" ..
+    /// "Accepted: it reports D .. d + D, becomes the new d."
+    pub fn score_call(&mut self, call: &ScoreCall) -> Called {
+        let voice = score_voice(call)?;
+        if let Some(number) = score_refusal(call).or_else(|| notes_refusal(call)) {
+            return Some(Outcome::Refused(number));
+        }
+        let notes: Vec<SeqNote> = call.words.chunks_exact(5).map(|w| call.note(w)).collect();
+        // "22 applies exactly when none before it does and d + D passes 2^64 − 1"
+        let draws: u128 = notes.iter().map(|note| call.draws(&voice, note)).sum();
+        let Ok(after) = u64::try_from(self.draw as u128 + draws) else {
+            return Some(Outcome::Refused(22));
+        };
+        let frames = score_frames(call, &voice, &notes, self.state(), draws as u64);
+        self.draw = after;
+        let draws = draws as u64;
+        Some(Outcome::Accepted { draws, frames })
+    }
+}
+
+/// "1 rate; 2 n; 3 tempo; 4 steps per beat; 5 swing or humanize: outside the domain"; "6 a knob of any
+/// of the four sets .. the duty or an envelope number isn't sized"; "20 and 21 after 6"; "7 note words
+/// not a multiple of five"; "11 a lane value, used or not, isn't sized". A NaN is in no range.
+fn score_refusal(call: &ScoreCall) -> Option<u32> {
+    let part = 0.0..=1.0;
+    let voiced = all_sized(call.knobs) && is_sized(call.duty) && all_sized(call.env);
+    first(&[
+        (1, !is_rate(call.rate)),
+        (2, call.out > MOST_FRAMES),
+        (3, !(1.0..=1000.0).contains(&call.tempo)),
+        (4, !(1..=64).contains(&call.steps_per_beat)),
+        (
+            5,
+            !part.contains(&call.swing) || !part.contains(&call.humanize),
+        ),
+        (6, !voiced),
+        (20, call.note_buf < call.out),
+        (21, call.string < STRING),
+        (7, call.words.len() % 5 != 0),
+        (11, !all_sized(call.lane)),
+    ])
+}
+
+/// "then note by note: 8 kind above 1; 9 step or len; 10 gain or constant pitch not sized; 12 offset +
+/// length (module 4's, for skipped notes too) passes the lane's end"
+fn notes_refusal(call: &ScoreCall) -> Option<u32> {
+    let mut notes = call.words.chunks_exact(5);
+    notes.find_map(|w| {
+        let curve = w[2] == 1;
+        let pitched = curve || is_sized(f32::from_bits(w[3]));
+        let end = w[3] as usize + call.length(w[1]);
+        first(&[
+            (8, w[2] > 1),
+            (9, w[0].max(w[1]) > 1_048_575),
+            (10, !is_sized(f32::from_bits(w[4])) || !pitched),
+            (12, curve && end > call.lane.len()),
+        ])
+    })
+}
+
+/// The voice with the score's own settings; none where no call is made.
+fn score_voice(call: &ScoreCall) -> Option<Voice> {
+    let knobs = call.knobs.try_into().ok()?;
+    let env = <[f32; 5]>::try_from(call.env).ok()?;
+    Some(Voice {
+        duty: call.duty,
+        swing: call.swing,
+        humanize: call.humanize,
+        env: envelope(env),
+        ..voice_of(wave_at(call.wave)?, knobs)
+    })
+}
+
+impl ScoreCall<'_> {
+    /// "Samples per step = rate × 60 / tempo / steps per beat, in f32."
+    fn samples_per_step(&self) -> f32 {
+        self.rate as f32 * 60.0 / self.tempo / self.steps_per_beat as f32
+    }
+
+    /// "Length = (len × samples per step, at most n) cut, at least 1."
+    pub fn length(&self, len: u32) -> usize {
+        let frames = len as f32 * self.samples_per_step();
+        (frames.min(self.out as f32) as usize).max(1)
+    }
+
+    /// A note of five words. "a curve at frame i is the lane's value at offset + i"
+    fn note(&self, w: &[u32]) -> SeqNote {
+        let offset = w[3] as usize;
+        let pitch = match w[2] {
+            0 => Value::Const(f32::from_bits(w[3])),
+            _ => Value::Modulated(self.lane[offset..offset + self.length(w[1])].to_vec()),
+        };
+        SeqNote {
+            step: w[0],
+            len: w[1],
+            pitch,
+            gain: f32::from_bits(w[4]),
+        }
+    }
+
+    /// A note's draws. "A note with start ≥ n is skipped, any other is sounded"; "Sounded frames =
+    /// min(n − start, length)".
+    fn draws(&self, voice: &Voice, note: &SeqNote) -> u128 {
+        let (start, _) = groove(voice, note, self.samples_per_step());
+        if start >= self.out {
+            return 0;
+        }
+        let sounded = (self.out - start).min(self.length(note.len));
+        let first_pitch = match &note.pitch {
+            Value::Const(pitch) => *pitch,
+            Value::Modulated(curve) => curve[0],
+            Value::Note(_) => panic!("no note names"),
+        };
+        draws_of(voice.wave, self.rate, first_pitch, sounded) as u128
+    }
+}
+
+/// The original's frames from a state, which it leaves after so many draws.
+fn score_frames(
+    call: &ScoreCall,
+    voice: &Voice,
+    notes: &[SeqNote],
+    state: u64,
+    draws: u64,
+) -> Vec<f32> {
+    let mut rng = Rng::new(state);
+    let (tempo, steps) = (call.tempo, call.steps_per_beat);
+    let frames = render(voice, tempo, steps, notes, call.out, call.rate, &mut rng);
+    moved(rng, state, draws);
+    frames
+}

@@ -1,0 +1,42 @@
+//! A score call's input, held by value.
+
+use crate::reference::ScoreCall;
+
+#[derive(Clone)]
+pub struct Score {
+    pub rate: u32,
+    pub tempo: f32,
+    pub steps_per_beat: u32,
+    pub swing: f32,
+    pub humanize: f32,
+    pub wave: u32,
+    pub duty: f32,
+    pub knobs: Vec<f32>,
+    pub env: Vec<f32>,
+    pub words: Vec<u32>,
+    pub lane: Vec<f32>,
+    pub out: usize,
+    pub note_buf: usize,
+    pub string: usize,
+}
+
+impl Score {
+    pub fn call(&self) -> ScoreCall<'_> {
+        ScoreCall {
+            rate: self.rate,
+            tempo: self.tempo,
+            steps_per_beat: self.steps_per_beat,
+            swing: self.swing,
+            humanize: self.humanize,
+            wave: self.wave,
+            duty: self.duty,
+            knobs: &self.knobs,
+            env: &self.env,
+            words: &self.words,
+            lane: &self.lane,
+            out: self.out,
+            note_buf: self.note_buf,
+            string: self.string,
+        }
+    }
+}

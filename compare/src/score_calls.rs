@@ -1,0 +1,214 @@
+//! Lists of score calls on one session, through `h_score` and by the tally.
+
+use crate::engine::THREADS;
+use crate::harness::{h_score, ScoreArgs};
+use crate::lent::{Lent, LentNumber};
+use crate::random::Source;
+use crate::reference::{self, Tally};
+use crate::score::Score;
+use crate::tried::{self, first_of, Tried};
+
+/// How many calls are tried where no number is given.
+pub const COUNT: u64 = 1_000_000;
+
+/// The session as the library holds it, beside the tally.
+struct Held {
+    tally: Tally,
+    state: LentNumber,
+    draw: LentNumber,
+}
+
+impl Held {
+    fn open(seed: u64, draw: u64) -> Held {
+        let tally = Tally { seed, draw };
+        Held {
+            state: LentNumber::of(tally.state()),
+            draw: LentNumber::of(draw),
+            tally,
+        }
+    }
+
+    /// The number that the tally gives, and what of the library's answer is another.
+    fn play(&mut self, score: &Score, before: u64) -> (u32, Option<String>) {
+        let mut draws = LentNumber::of(before);
+        let mut buffers = Buffers::of(score);
+        let number = buffers.play(score, self, &mut draws);
+        let called = self.tally.score_call(&score.call());
+        let told = match called {
+            None => before,
+            _ => reference::made(&called),
+        };
+        let differs = first_of(&[
+            ("number", number != reference::number(&called)),
+            ("draws", !draws.holds(told)),
+            ("state", !self.state.holds(self.tally.state())),
+            ("draw count", !self.draw.holds(self.tally.draw)),
+        ]);
+        let frames = reference::frames(&called);
+        let differs = differs.or_else(|| buffers.differ(score, frames));
+        (reference::number(&called), differs)
+    }
+}
+
+/// What a call is lent.
+struct Buffers {
+    knobs: Lent<f32>,
+    env: Lent<f32>,
+    words: Lent<u32>,
+    lane: Lent<f32>,
+    out: Lent<f32>,
+    note_buf: Lent<f32>,
+    string: Lent<f32>,
+}
+
+impl Buffers {
+    fn of(score: &Score) -> Buffers {
+        Buffers {
+            knobs: Lent::of(&score.knobs),
+            env: Lent::of(&score.env),
+            words: Lent::of(&score.words),
+            lane: Lent::of(&score.lane),
+            out: Lent::any(score.out),
+            note_buf: Lent::any(score.note_buf),
+            string: Lent::any(score.string),
+        }
+    }
+
+    fn play(&mut self, score: &Score, held: &mut Held, draws: &mut LentNumber) -> u32 {
+        h_score(ScoreArgs {
+            state: held.state.place(),
+            draw: held.draw.place(),
+            draws: draws.place(),
+            rate: score.rate,
+            tempo: score.tempo,
+            steps_per_beat: score.steps_per_beat,
+            swing: score.swing,
+            humanize: score.humanize,
+            wave: score.wave,
+            duty: score.duty,
+            knobs: self.knobs.part(),
+            env: self.env.part(),
+            notes: self.words.part(),
+            lane: self.lane.part(),
+            out: self.out.part_mut(),
+            note_buf: self.note_buf.part_mut(),
+            string: self.string.part_mut(),
+        })
+    }
+
+    /// What of them is not as it should be; `frames` are those of an accepted call.
+    fn differ(&self, score: &Score, frames: Option<&[f32]>) -> Option<String> {
+        let free = |m: usize| if frames.is_some() { m } else { 0 };
+        first_of(&[
+            ("output", !self.out.holds(frames)),
+            ("note buffer", !self.note_buf.stays_but(free(score.out))),
+            ("string", !self.string.stays_but(free(9600))),
+            ("knobs", !self.knobs.stays()),
+            ("envelope", !self.env.stays()),
+            ("notes", !self.words.stays()),
+            ("lane", !self.lane.stays()),
+        ])
+    }
+}
+
+/// A count from which some call of the list ends at the last draw, or passes it.
+fn near_the_end(scores: &[Score], s: &mut Source) -> u64 {
+    let mut tally = Tally { seed: 0, draw: 0 };
+    for score in &scores[..1 + s.below(scores.len() as u64) as usize] {
+        tally.score_call(&score.call());
+    }
+    let last = u64::MAX - tally.draw;
+    s.pick(&[
+        last,
+        last,
+        last.saturating_add(1),
+        last.saturating_add(2),
+        last - 1,
+    ])
+}
+
+/// The list of this number: its session and its calls, one after the other, up to the first fault.
+fn try_list(list: u64, calls: u64, tried: &mut Tried) {
+    let mut s = Source::new(list);
+    let scores: Vec<Score> = (0..calls).map(|_| Score::random(&mut s)).collect();
+    let draw = match s.below(4) {
+        0 => 0,
+        1 => s.number(),
+        2 => u64::MAX - s.below(1000),
+        _ => near_the_end(&scores, &mut s),
+    };
+    let mut held = Held::open(s.number(), draw);
+    for (i, score) in scores.iter().enumerate() {
+        let (number, differs) = held.play(score, s.number());
+        let faulty = differs.is_some();
+        tried.add(
+            number,
+            differs.map(|what| format!("list {list}, call {i}: {what}")),
+        );
+        if faulty {
+            return;
+        }
+        if number == 0 && held.tally.draw == u64::MAX {
+            tried.mark("accepted and at draw 2^64 - 1 after it");
+        }
+    }
+}
+
+/// Scores as long as the domain goes: empty, and with noise all through and at the very end.
+fn try_longest(tried: &mut Tried) {
+    let mut s = Source::new(0);
+    let mut held = Held::open(1, 2);
+    let gain = 1f32.to_bits();
+    // at 180 frames a step
+    let all = [0, 1_048_575, 0, 0, gain];
+    let last = [93_206, 1, 0, 0, gain];
+    for words in [vec![], [all, last].concat()] {
+        let score = Score {
+            rate: 192_000,
+            tempo: 1000.0,
+            steps_per_beat: 64,
+            swing: 0.0,
+            humanize: 0.0,
+            wave: 4,
+            duty: 0.5,
+            knobs: vec![0.5; 22],
+            env: vec![0.0, 0.0, 1.0, 0.0, 0.0],
+            words,
+            lane: Vec::new(),
+            out: 16_777_216,
+            note_buf: 16_777_216,
+            string: 9600,
+        };
+        let (number, differs) = held.play(&score, s.number());
+        tried.add(
+            number,
+            differs.map(|what| format!("the longest score: {what}")),
+        );
+    }
+}
+
+/// Lists of 1 to 8 calls in turn: 36 calls in each round of eight lists.
+fn calls_before(list: u64) -> u64 {
+    let (rounds, rest) = (list / 8, list % 8);
+    36 * rounds + rest * (rest + 1) / 2
+}
+
+fn share(first: u64, count: u64) -> Tried {
+    let mut tried = Tried::default();
+    if first == 0 {
+        try_longest(&mut tried);
+    }
+    for list in (first..).step_by(THREADS) {
+        let before = calls_before(list);
+        if before >= count {
+            break;
+        }
+        try_list(list, (1 + list % 8).min(count - before), &mut tried);
+    }
+    tried
+}
+
+/// Compares `count` calls, and answers how many differ.
+pub fn run(count: u64) -> u64 {
+    tried::run("score calls", |thread| share(thread, count))
+}

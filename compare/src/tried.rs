@@ -1,0 +1,75 @@
+//! What a run of calls came to: how often each outcome came up, and what differs.
+
+use crate::engine::{in_threads, SHOWN};
+use crate::reference::NO_CALL;
+use std::collections::BTreeMap;
+use std::time::Instant;
+
+#[derive(Default)]
+pub struct Tried {
+    outcomes: BTreeMap<u32, u64>,
+    marked: BTreeMap<&'static str, u64>,
+    differ: u64,
+    lines: Vec<String>,
+}
+
+impl Tried {
+    /// One call by the number that the reference gives, and what differs.
+    pub fn add(&mut self, number: u32, differs: Option<String>) {
+        *self.outcomes.entry(number).or_default() += 1;
+        if let Some(line) = differs {
+            self.differ += 1;
+            self.lines.push(line);
+            self.lines.truncate(SHOWN);
+        }
+    }
+
+    /// One more call of a kind that is worth a line.
+    #[cfg(feature = "score")]
+    pub fn mark(&mut self, kind: &'static str) {
+        *self.marked.entry(kind).or_default() += 1;
+    }
+
+    fn join(mut self, other: Tried) -> Tried {
+        for (number, count) in other.outcomes {
+            *self.outcomes.entry(number).or_default() += count;
+        }
+        for (kind, count) in other.marked {
+            *self.marked.entry(kind).or_default() += count;
+        }
+        self.differ += other.differ;
+        self.lines.extend(other.lines);
+        self
+    }
+}
+
+/// Has each thread try its share, prints what came of it, and answers how many calls differ.
+pub fn run(what: &str, share: impl Fn(u64) -> Tried + Sync) -> u64 {
+    let begun = Instant::now();
+    let all = in_threads(share)
+        .into_iter()
+        .fold(Tried::default(), Tried::join);
+    let calls: u64 = all.outcomes.values().sum();
+    let seconds = begun.elapsed().as_secs_f64();
+    println!("{calls} {what}, {} differ, {seconds:.1} s", all.differ);
+    for (number, count) in &all.outcomes {
+        match *number {
+            0 => println!("  {count:>8} accepted"),
+            NO_CALL => println!("  {count:>8} not made"),
+            number => println!("  {count:>8} refused with {number}"),
+        }
+    }
+    for (kind, count) in &all.marked {
+        println!("  {count:>8} {kind}");
+    }
+    for line in all.lines.iter().take(SHOWN) {
+        println!("  {line}");
+    }
+    println!("{} differ in all", all.differ);
+    all.differ
+}
+
+/// The first of these that holds.
+pub fn first_of(faults: &[(&str, bool)]) -> Option<String> {
+    faults.iter().find(|f| f.1).map(|f| f.0.to_string())
+}

@@ -1,0 +1,60 @@
+// The note call from C.
+ghost use Rattle.harness.specs.Note.{Exported};
+use crate::knobs::VoiceAt;
+use crate::knobs::voice_at;
+use dsp::Rng;
+use note::Outcome;
+
+// 0 where the call is accepted, else the refusal's number. `state` is the generator's, and changes
+// only with an accepted call; `draws` gets the draws made, 0 for a refusal. Where there is no such wave
+// or there are not 22 knobs, the answer is 4294967295 and nothing changes.
+#[no_mangle]
+pub extern "C" fn h_note(
+    rate: u32,
+    wave: u32,
+    knobs: &[f32],
+    gain: f32,
+    state: &mut u64,
+    draws: &mut u64,
+    pitch: &[f32],
+    duty: &[f32],
+    out: &mut [f32],
+    string: &mut [f32],
+) -> u32
+    ensures { λ r. ⌜ Exported (record {
+      rate = rate;
+      wave = wave;
+      knobs = now (knobs .entry);
+      gain = gain;
+      state₀ = now (state .entry);
+      draws₀ = now (draws .entry);
+      pitch = now (pitch .entry);
+      duty = now (duty .entry);
+      out₀ = now (out .entry);
+      string₀ = now (string .entry);
+      number = r;
+      state = now (state .exit);
+      draws = now (draws .exit);
+      out = now (out .exit);
+      string = now (string .exit);
+    }) ⌝ }
+{
+    let VoiceAt::Voice(voice) = voice_at(wave, knobs) else {
+        return u32::MAX;
+    };
+    let rng = Rng::new(*state);
+    let answer = note::seq_note_signal(rng, rate, voice, gain, pitch, duty, out, string);
+    let outcome = answer.outcome;
+    match outcome {
+        Outcome::Played(made) => {
+            let after = answer.rng;
+            *state = after.state();
+            *draws = made;
+            0
+        }
+        Outcome::Refused(refusal) => {
+            *draws = 0;
+            refusal.number()
+        }
+    }
+}
