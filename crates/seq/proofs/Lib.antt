@@ -1,2 +1,3 @@
+mod Sounding
 mod Playing
 mod Calls

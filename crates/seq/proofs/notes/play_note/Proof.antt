@@ -1,16 +1,21 @@
 -- `seq::notes::play_note` meets its contract. Assumes nothing.
-use mathlib.Core.Path.{refl, sym, ap, _∙_}
+use mathlib.Core.Path.{_≡_, refl, sym, _∙_}
 use native.Mathlib.Omega.{arith}
-use borrow.Author.Tests.{lt-leb}
 use lib.ListN.{length}
-use Rattle.dsp.specs.SplitMix64.{stateAfter}
-use Rattle.dsp.proofs.States.{state-none}
-use Rattle.score.specs.Score.{scoreOf, samplesIn}
-use Rattle.score.proofs.Accepted.{clean-note, clean-kind, sounded-reached}
-use Rattle.score.proofs.Notes.{len-most, skipped-draws, skipped-frames, some-sounded, all-within, sounded-draws, sounded-frames}
+use Rattle.dsl.specs.declared.note.SeqNote.{SeqNote}
+use Rattle.dsl.specs.declared.note.Decoded.the-variants.{Note}
+use Rattle.score.specs.Score.{Score, scoreOf, noteAt}
+use Rattle.score.proofs.Accepted.{NoteFine, clean-note, clean-kind}
+use Rattle.seq.proofs.Sounding.{skipped-note, sound-asks, sounded-note}
 use borrow.Author.Needs.{needs}
 use Rattle.seq.proofs.notes.play_note.Statement.{statement}
 use Rattle.seq.proofs.notes.play_note.Tie as tie
+
+abbrev score-in : tie.Start → Score
+score-in c = scoreOf (c .args .seq) (c .args .notes .now) (c .args .lane .now) (length (c .args .out .now))
+
+note-fine-in : (c : tie.Start) (m : SeqNote) → noteAt (c .args .notes .now) (c .args .k) ≡ Note m → NoteFine (score-in c .seq) (score-in c .n) (length (score-in c .lane)) m
+note-fine-in c m is = clean-note (score-in c) (c .pre .1 .1 .0) (c .args .k) (c .pre .1 .1 .1 .0) m is
 
 note-at-requires : tie.Need-note-at-requires
 note-at-requires c κs = omega arith
@@ -22,39 +27,16 @@ enum-told : tie.Need-enum-told
 enum-told c = search needs
 
 returns : tie.Need-returns
-returns c =
-    let a = c .before .before .before .before .before .before .before .before .args in
-    let s = scoreOf (a .seq) (a .notes .now) (a .lane .now) (length (a .out .now)) in
-    let p = c .before .before .before .before .before .before .before .before .pre in
-    absurd (clean-kind s (p .1 .1 .0) (a .k) (p .1 .1 .1 .0) (sym (c .before .before .note-at .ensures) ∙ c .enum-told .given .1))
+returns c = absurd (clean-kind (score-in (c .before .before .before .before .before .before .before .before)) (c .before .before .before .before .before .before .before .before .pre .1 .1 .0) _ (c .before .before .before .before .before .before .before .before .pre .1 .1 .1 .0) (sym (c .before .before .note-at .ensures) ∙ c .enum-told .given .1))
 
 place-note-requires : tie.Need-place-note-requires
-place-note-requires c κs =
-    let a = c .before .before .before .before .before .before .before .before .before .args in
-    let s = scoreOf (a .seq) (a .notes .now) (a .lane .now) (length (a .out .now)) in
-    let p = c .before .before .before .before .before .before .before .before .before .pre in
-    let m = c .before .note .given .0 .0 in
-    let fine = clean-note s (p .1 .1 .0) (a .k) (p .1 .1 .1 .0) m (sym (c .before .before .before .note-at .ensures) ∙ c .before .note .given .1) in
-    (p .1 .0, fine .number)
+place-note-requires c κs = (c .before .before .before .before .before .before .before .before .before .pre .1 .0, (note-fine-in (c .before .before .before .before .before .before .before .before .before) _ (sym (c .before .before .before .note-at .ensures) ∙ c .before .note .given .1)) .number)
 
 returns-2 : tie.Need-returns-2
-returns-2 c =
-    let a = c .before .before .before .before .before .before .before .before .before .before .before .before .args in
-    let s = scoreOf (a .seq) (a .notes .now) (a .lane .now) (length (a .out .now)) in
-    let p = c .before .before .before .before .before .before .before .before .before .before .before .before .pre in
-    let m = c .before .before .before .before .note .given .0 .0 in
-    let late = rw (c .before .before .place-note .ensures) at (c .if1 .taken) in
-    rw (sym (c .before .before .before .before .before .before .note-at .ensures) ∙ c .before .before .before .before .note .given .1) (sym (ap (stateAfter (a .rng .0)) (sym (skipped-draws s m late)) ∙ state-none (a .rng .0) (omega (arith, c .before .before .before .before .before .before .before .before .before .before .before .before .good .0))), (skipped-frames s m late (a .rng .0) (a .out .now), (refl, refl)))
+returns-2 c = let r = skipped-note (score-in (c .before .before .before .before .before .before .before .before .before .before .before .before)) _ (c .before .before .before .before .note .given .0 .0) _ (sym (c .before .before .before .before .before .before .note-at .ensures) ∙ c .before .before .before .before .note .given .1) (c .before .before .place-note .ensures) (c .if1 .taken) (c .before .before .before .before .before .before .before .before .before .before .before .before .args .rng .0) (omega (arith, c .before .before .before .before .before .before .before .before .before .before .before .before .good .0)) (c .before .before .before .before .before .before .before .before .before .before .before .before .args .out .now) in (r .0, (r .1, (refl, refl)))
 
 sound-note-requires : tie.Need-sound-note-requires
-sound-note-requires c κs =
-    let a = c .before .before .before .before .before .before .before .before .before .before .before .before .before .before .before .args in
-    let s = scoreOf (a .seq) (a .notes .now) (a .lane .now) (length (a .out .now)) in
-    let p = c .before .before .before .before .before .before .before .before .before .before .before .before .before .before .before .pre in
-    let m = c .before .before .before .before .before .before .before .note .given .0 .0 in
-    let fine = clean-note s (p .1 .1 .0) (a .k) (p .1 .1 .1 .0) m (sym (c .before .before .before .before .before .before .before .before .before .note-at .ensures) ∙ c .before .before .before .before .before .before .before .note .given .1) in
-    let heard = lt-leb _ _ (rw (c .before .before .before .before .before .place-note .ensures) at (c .before .before .before .if1 .left)) in
-    rw (c .before .before .before .before .before .place-note .ensures) (p .0, (p .1 .0, (some-sounded s m heard, (all-within s m heard, (len-most s m (p .1 .0), (sounded-reached s m fine, (p .1 .1 .1 .1 .0, p .1 .1 .1 .1 .1)))))))
+sound-note-requires c κs = let q = sound-asks (score-in (c .before .before .before .before .before .before .before .before .before .before .before .before .before .before .before)) _ (c .before .before .before .before .before .before .before .note .given .0 .0) _ (sym (c .before .before .before .before .before .before .before .before .before .note-at .ensures) ∙ c .before .before .before .before .before .before .before .note .given .1) (c .before .before .before .before .before .place-note .ensures) (c .before .before .before .if1 .left) (c .before .before .before .before .before .before .before .before .before .before .before .before .before .before .before .pre .1 .0) (note-fine-in (c .before .before .before .before .before .before .before .before .before .before .before .before .before .before .before) _ (sym (c .before .before .before .before .before .before .before .before .before .note-at .ensures) ∙ c .before .before .before .before .before .before .before .note .given .1)) in (c .before .before .before .before .before .before .before .before .before .before .before .before .before .before .before .pre .0, (c .before .before .before .before .before .before .before .before .before .before .before .before .before .before .before .pre .1 .0, (q .0, (q .1 .0, (q .1 .1 .0, (q .1 .1 .1, c .before .before .before .before .before .before .before .before .before .before .before .before .before .before .before .pre .1 .1 .1 .1))))))
 
 same-length : tie.Need-same-length
 same-length c = search needs
@@ -66,15 +48,7 @@ same-length-3 : tie.Need-same-length-3
 same-length-3 c = search needs
 
 returns-3 : tie.Need-returns-3
-unfolding samplesIn
-returns-3 c =
-    let a = c .before .before .before .before .before .before .before .before .before .before .before .before .before .before .before .before .before .before .before .before .before .before .args in
-    let s = scoreOf (a .seq) (a .notes .now) (a .lane .now) (length (a .out .now)) in
-    let p = c .before .before .before .before .before .before .before .before .before .before .before .before .before .before .before .before .before .before .before .before .before .before .pre in
-    let m = c .before .before .before .before .before .before .before .before .before .before .before .before .before .before .note .given .0 .0 in
-    let heard = lt-leb _ _ (rw (c .before .before .before .before .before .before .before .before .before .before .before .before .place-note .ensures) at (c .before .before .before .before .before .before .before .before .before .before .if1 .left)) in
-    let r = rw (c .before .before .before .before .before .before .before .before .before .before .before .before .place-note .ensures) at (c .before .before .before .before .before .before .sound-note .ensures) in
-    rw (sym (c .before .before .before .before .before .before .before .before .before .before .before .before .before .before .before .before .note-at .ensures) ∙ c .before .before .before .before .before .before .before .before .before .before .before .before .before .before .note .given .1) (r .0 ∙ ap (stateAfter (a .rng .0)) (sounded-draws s m heard), (r .1 .0 ∙ sounded-frames s m heard (a .rng .0) (a .out .now), r .1 .1))
+returns-3 c = let r = sounded-note (score-in (c .before .before .before .before .before .before .before .before .before .before .before .before .before .before .before .before .before .before .before .before .before .before)) _ (c .before .before .before .before .before .before .before .before .before .before .before .before .before .before .note .given .0 .0) _ (sym (c .before .before .before .before .before .before .before .before .before .before .before .before .before .before .before .before .note-at .ensures) ∙ c .before .before .before .before .before .before .before .before .before .before .before .before .before .before .note .given .1) (c .before .before .before .before .before .before .before .before .before .before .before .before .place-note .ensures) (c .before .before .before .before .before .before .before .before .before .before .if1 .left) _ _ _ _ (c .before .before .before .before .before .before .sound-note .ensures .0) (c .before .before .before .before .before .before .sound-note .ensures .1 .0) in (r .0, (r .1, c .before .before .before .before .before .before .sound-note .ensures .1 .1))
 
 pub play-note-spec : {M : Type 1} → statement M
 play-note-spec =
