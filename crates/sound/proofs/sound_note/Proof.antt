@@ -1,4 +1,4 @@
--- `seq::notes::sound_note` meets its contract. Assumes nothing.
+-- `sound::sound_note` meets its contract. Assumes nothing.
 use Prim.Native.Nat.{_≤_}
 use mathlib.Core.Path.{_≡_, sym, ap, _∙_}
 use native.Mathlib.Omega.{arith}
@@ -7,8 +7,8 @@ use lib.Seq.{length-take-le, take-at}
 use Rattle.dsl.specs.Pitch.{pitchAt}
 use Rattle.voice.proofs.Kept.{kept-past}
 use borrow.Author.Needs.{needs}
-use Rattle.seq.proofs.notes.sound_note.Statement.{statement}
-use Rattle.seq.proofs.notes.sound_note.Tie as tie
+use Rattle.sound.proofs.sound_note.Statement.{statement}
+use Rattle.sound.proofs.sound_note.Tie as tie
 
 slice-relend-prefix-sig : tie.Need-slice-relend-prefix-sig
 slice-relend-prefix-sig c =
