@@ -1,8 +1,7 @@
 // SplitMix64.
 ghost use mathlib.Core.Path.{_≡_};
-ghost use Prim.Native.Nat.{_/_, _^_};
 ghost use Rattle.dsp.specs.SplitMix64.{mix, advance, next, stateAfter};
-ghost use Rattle.dsp.specs.Draw.{unitOf, biOf};
+ghost use Rattle.dsp.specs.Draw.{unitFrom, biFrom};
 
 // SplitMix64's step: the odd number nearest to 2^64 divided by the golden ratio.
 const GOLDEN_GAMMA: u64 = 0x9E37_79B9_7F4A_7C15;
@@ -64,7 +63,7 @@ impl Rng {
 
     // From 0 up to but not at 1, in steps of 2^-24: the top 24 bits, every one of them exact.
     pub fn unit(self) -> DrawF32
-        ensures { λ r. ⌜ (r .value ≡ unitOf (next (self .0) / 2 ^ 40)) × (r .rng .0 ≡ advance (self .0)) ⌝ }
+        ensures { λ r. ⌜ (r .value ≡ unitFrom (self .0)) × (r .rng .0 ≡ advance (self .0)) ⌝ }
     {
         let d = self.next_u64();
         let rng = d.rng;
@@ -76,7 +75,7 @@ impl Rng {
 
     // From -1 up to but not at 1, in steps of 2^-23: a sample of white noise.
     pub fn bi(self) -> DrawF32
-        ensures { λ r. ⌜ (r .value ≡ biOf (next (self .0) / 2 ^ 40)) × (r .rng .0 ≡ advance (self .0)) ⌝ }
+        ensures { λ r. ⌜ (r .value ≡ biFrom (self .0)) × (r .rng .0 ≡ advance (self .0)) ⌝ }
     {
         let u = self.unit();
         let rng = u.rng;

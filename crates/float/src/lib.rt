@@ -5,7 +5,7 @@ mod bits; // bits.rt: a float from its pattern
 mod cast; // cast.rt: floats to integers
 mod convert; // convert.rt: f64 to f32 and back
 mod order; // order.rt: max, min, clamp, abs
-mod root; // root.rt: the square root
+mod square_root; // square_root.rt: the square root
 mod whole_f32; // whole_f32.rt: floor, trunc, round and fract of an f32
 mod whole_f64; // whole_f64.rt: floor, trunc and round of an f64
 
@@ -18,7 +18,7 @@ pub use order::abs_f32;
 pub use order::clamp_f32;
 pub use order::max_f32;
 pub use order::min_f32;
-pub use root::sqrt_f32;
+pub use square_root::sqrt_f32;
 pub use whole_f32::floor_f32;
 pub use whole_f32::fract_f32;
 pub use whole_f32::round_f32;

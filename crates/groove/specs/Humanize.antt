@@ -1,10 +1,10 @@
 -- "With humanize above 0 a generator of its own gives first timing, then gain; its seed is step × 2^32 xor len × 2^8 xor 6A09E667 xor the pitch identity rotated left by 17 (constants hexadecimal)."
-use Prim.Native.Nat.{ℕ, _*_, _/_, _^_}
+use Prim.Native.Nat.{ℕ, _*_, _^_}
 use lib.Bits.{bitXor}
 use lib.Ieee.{binary32, toBits}
 use Rattle.word.specs.Rotate.{rotated}
-use Rattle.dsp.specs.SplitMix64.{next, advance}
-use Rattle.dsp.specs.Draw.{biOf}
+use Rattle.dsp.specs.SplitMix64.{advance}
+use Rattle.dsp.specs.Draw.{biFrom}
 use Rattle.dsl.specs.declared.pitch.Pitch.{Pitch}
 use Rattle.dsl.specs.declared.pitch.Pitch.the-variants.{Const, Curve}
 use Rattle.dsl.specs.declared.note.SeqNote.{SeqNote}
@@ -22,4 +22,4 @@ seedOf note = bitXor (bitXor (bitXor (note .step * 2 ^ 32) (note .len * 2 ^ 8)) 
 unfoldable pub humanizeDraws : SeqNote → HumanDraws
 humanizeDraws note =
     let s = seedOf note in
-    record { timing = biOf (next s / 2 ^ 40); gain = biOf (next (advance s) / 2 ^ 40) }
+    record { timing = biFrom s; gain = biFrom (advance s) }

@@ -1,13 +1,12 @@
 // The float helpers and the generator.
 ghost use mathlib.Core.Path.{_≡_};
-ghost use Prim.Native.Nat.{_/_, _^_};
 ghost use lib.Ieee.{binary32, toUnsigned, toSigned};
 ghost use Rattle.ieee.specs.Narrow.{narrowOf};
 ghost use Rattle.ieee.specs.Root.{sqrtOf};
 ghost use Rattle.ieee.specs.Sign.{absOf};
 ghost use Rattle.ieee.specs.Whole.{floorOf, truncOf, roundOf, fractOf};
 ghost use Rattle.dsp.specs.SplitMix64.{next};
-ghost use Rattle.dsp.specs.Draw.{biOf};
+ghost use Rattle.dsp.specs.Draw.{biFrom};
 use dsp::Rng;
 
 #[no_mangle]
@@ -115,7 +114,7 @@ pub extern "C" fn h_draw(state: u64) -> u64
 // What `bi` gives at a state.
 #[no_mangle]
 pub extern "C" fn h_bi(state: u64) -> f32
-    ensures { λ r. ⌜ r ≡ biOf (next state / 2 ^ 40) ⌝ }
+    ensures { λ r. ⌜ r ≡ biFrom state ⌝ }
 {
     let d = Rng::new(state).bi();
     d.value

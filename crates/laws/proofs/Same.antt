@@ -5,6 +5,10 @@ use mathlib.Core.List.{List, [], _∷_, _++_}
 use native.Mathlib.Omega.{arith}
 use Rattle.laws.specs.Run.{stateAt, samples, sampleAt}
 
+-- two functions agree below n
+abbrev pub Below : {Y : Type 0} → (ℕ → Y) → (ℕ → Y) → ℕ → Type 0
+Below f f′ n = (i : ℕ) → i < n → f i ≡ f′ i
+
 module _ {S O Y : Type 0} (step step′ : ℕ → S → O) (sample : O → Y) (state : O → S) (s₀ : S) where
   -- the steps agree at every frame below n
   abbrev pub Agree : ℕ → Type 0

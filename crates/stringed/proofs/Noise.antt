@@ -7,7 +7,8 @@ use Rattle.laws.specs.Run.{stateAt}
 use Rattle.laws.proofs.Fill.{samples-length}
 use Rattle.dsp.specs.SplitMix64.{advance, stateAfter}
 use Rattle.dsp.proofs.States.{state-none, state-next}
-use Rattle.stringed.specs.Noise.{biFrom, noise}
+use Rattle.dsp.specs.Draw.{biFrom}
+use Rattle.stringed.specs.Noise.{noise}
 
 pub noise-length : (s n : ℕ) → length (noise s n) ≡ n
 unfolding noise

@@ -8,7 +8,7 @@ use native.Mathlib.Numerals.{add-one}
 use lib.ListN.{length}
 use lib.Ieee.{Float}
 use Rattle.laws.specs.Run.{stateAt, samples}
-use Rattle.laws.proofs.Same.{samples-same}
+use Rattle.laws.proofs.Same.{Below, samples-same}
 use Rattle.dsp.specs.SplitMix64.{advance, stateAfter}
 use Rattle.dsp.proofs.States.{state-none, state-next}
 use Rattle.dsl.specs.declared.knobs.PianoKnobs.{PianoKnobs}
@@ -21,12 +21,12 @@ use Rattle.stringed.specs.declared.hammer.Partial.{Partial}
 use Rattle.stringed.specs.declared.wires.Pair.{Pair}
 
 module _ (f f′ : ℕ → Float) where
-  sound-same : (srf : Float) (det : Pair) (norm : Float) (start : Piano) (n : ℕ) → ((i : ℕ) → i < n → f i ≡ f′ i) → soundFrames f srf det norm start n ≡ soundFrames f′ srf det norm start n
+  sound-same : (srf : Float) (det : Pair) (norm : Float) (start : Piano) (n : ℕ) → Below f f′ n → soundFrames f srf det norm start n ≡ soundFrames f′ srf det norm start n
   unfolding soundFrames pianoAt
   sound-same srf det norm start n h = samples-same (pianoAt f srf det norm) (pianoAt f′ srf det norm) (λ r. r .sample) (λ r. r .state) start n (λ i l s. rw (h i l))
 
   -- the pitch at frame 0, its fundamental, is one of its own frames where it has any
-  pub piano-same : (k : PianoKnobs) (gain srf : Float) (s n : ℕ) → ((i : ℕ) → i < n → f i ≡ f′ i) → pianoFrames f k gain srf s n ≡ pianoFrames f′ k gain srf s n
+  pub piano-same : (k : PianoKnobs) (gain srf : Float) (s n : ℕ) → Below f f′ n → pianoFrames f k gain srf s n ≡ pianoFrames f′ k gain srf s n
   unfolding pianoFrames soundFrames samples
   piano-same k gain srf s zero h = refl
   piano-same k gain srf s (suc n) h =

@@ -12,7 +12,7 @@ use Rattle.dsp.specs.SplitMix64.{advance}
 use Rattle.dsl.specs.declared.knobs.PianoKnobs.{PianoKnobs}
 use Rattle.osc.specs.Phase.{increment, seconds}
 use Rattle.stringed.specs.Constants.{c1e-6}
-use Rattle.stringed.specs.Noise.{biFrom}
+use Rattle.dsp.specs.Draw.{biFrom}
 use Rattle.stringed.specs.Hammer.{blowOf, partialsOf}
 use Rattle.stringed.specs.Wires.{pairOf, added, moved, ampAdded}
 use Rattle.stringed.specs.declared.hammer.Partial.{Partial}

@@ -1,10 +1,10 @@
 -- A voice reads only its own frames: pitches that agree below n give the same n frames. Assumes nothing.
-use Prim.Native.Nat.{ℕ, zero, suc, _<_}
+use Prim.Native.Nat.{ℕ, zero, suc}
 use mathlib.Core.Path.{_≡_, refl, ap, _∙_}
 use native.Mathlib.Nat.{zero-lt-suc}
 use lib.Ieee.{Float}
 use Rattle.laws.specs.Run.{samples}
-use Rattle.laws.proofs.Same.{samples-same}
+use Rattle.laws.proofs.Same.{Below, samples-same}
 use Rattle.dsl.specs.declared.knobs.BassKnobs.{BassKnobs}
 use Rattle.struck.specs.Epiano.{epianoDecay, epianoAt, epianoStart, epianoFrames}
 use Rattle.struck.specs.Mallet.{malletAt, malletStart, malletFrames}
@@ -12,12 +12,8 @@ use Rattle.struck.specs.Bell.{bellAt, bellStart, bellFrames}
 use Rattle.struck.specs.Bass.{bassAt, bassStart, bassFrames}
 
 module _ (f f′ : ℕ → Float) (srf : Float) where
-  -- the pitches agree below n
-  abbrev pub Alike : ℕ → Type 0
-  Alike n = (i : ℕ) → i < n → f i ≡ f′ i
-
   -- with no frame the first pitch is not read
-  pub epianoSame : (gain : Float) (n : ℕ) → Alike n → epianoFrames f gain srf n ≡ epianoFrames f′ gain srf n
+  pub epianoSame : (gain : Float) (n : ℕ) → Below f f′ n → epianoFrames f gain srf n ≡ epianoFrames f′ gain srf n
   unfolding epianoFrames epianoAt samples
   epianoSame gain zero h = refl
   epianoSame gain (suc n) h =
@@ -25,14 +21,14 @@ module _ (f f′ : ℕ → Float) (srf : Float) where
       ∙ samples-same (epianoAt f gain srf (epianoDecay (f′ 0))) (epianoAt f′ gain srf (epianoDecay (f′ 0))) (λ r. r .sample) (λ r. r .state) epianoStart (suc n)
       (λ i l s. ap (λ (p : Float). epianoAt (λ _. p) gain srf (epianoDecay (f′ 0)) i s) (h i l))
 
-  pub malletSame : (gain : Float) (n : ℕ) → Alike n → malletFrames f gain srf n ≡ malletFrames f′ gain srf n
+  pub malletSame : (gain : Float) (n : ℕ) → Below f f′ n → malletFrames f gain srf n ≡ malletFrames f′ gain srf n
   unfolding malletFrames malletAt
   malletSame gain n h = samples-same (malletAt f gain srf) (malletAt f′ gain srf) (λ r. r .sample) (λ r. r .state) malletStart n (λ i l s. ap (λ (p : Float). malletAt (λ _. p) gain srf i s) (h i l))
 
-  pub bellSame : (n : ℕ) → Alike n → bellFrames f srf n ≡ bellFrames f′ srf n
+  pub bellSame : (n : ℕ) → Below f f′ n → bellFrames f srf n ≡ bellFrames f′ srf n
   unfolding bellFrames bellAt
   bellSame n h = samples-same (bellAt f srf) (bellAt f′ srf) (λ r. r .sample) (λ r. r .state) bellStart n (λ i l s. ap (λ (p : Float). bellAt (λ _. p) srf i s) (h i l))
 
-  pub bassSame : (bass : BassKnobs) (gain : Float) (n : ℕ) → Alike n → bassFrames f bass gain srf n ≡ bassFrames f′ bass gain srf n
+  pub bassSame : (bass : BassKnobs) (gain : Float) (n : ℕ) → Below f f′ n → bassFrames f bass gain srf n ≡ bassFrames f′ bass gain srf n
   unfolding bassFrames bassAt
   bassSame bass gain n h = samples-same (bassAt f bass gain srf) (bassAt f′ bass gain srf) (λ r. r .sample) (λ r. r .state) bassStart n (λ i l s. ap (λ (p : Float). bassAt (λ _. p) bass gain srf i s) (h i l))

@@ -1,5 +1,5 @@
 -- `flute_note` of render/seq.rs, operation by operation. `f` is the pitch by frame, `gain` the note's own, `srf` the rate, `rng` the generator before the first frame.
-use Prim.Native.Nat.{ℕ, _/_, _^_}
+use Prim.Native.Nat.{ℕ}
 use mathlib.Core.List.{List}
 use lib.Ieee.{Float, binary32, ofBits, neg}
 use Rattle.ieee.specs.Numbers.{c0, c0·006, c0·03, c0·15, c0·9, c1, c1200}
@@ -7,8 +7,8 @@ use Rattle.laws.specs.Run.{samples, stateAt}
 use Rattle.ieee.specs.Binary32.{_⊕_, _⊖_, _⊗_, _⊘_}
 use Rattle.ieee.specs.Order.{maxOf}
 use Rattle.dsp.specs.Kernels.{TAU, sinOf, expOf}
-use Rattle.dsp.specs.SplitMix64.{advance, next}
-use Rattle.dsp.specs.Draw.{biOf}
+use Rattle.dsp.specs.SplitMix64.{advance}
+use Rattle.dsp.specs.Draw.{biFrom}
 use Rattle.osc.specs.Phase.{wrapped, seconds}
 use Rattle.dsp.specs.declared.rng.Rng.{Rng}
 use Rattle.sustained.specs.declared.flute.FluteState.{FluteState}
@@ -37,7 +37,7 @@ fluteAt f gain srf lpA i s =
     let fmod = c1 ⊕ depth ⊗ sinOf (TAU ⊗ s .vib) in
     let vib = wrapped (s .vib ⊕ c5·5 ⊘ srf) in
     let phase = wrapped (s .phase ⊕ maxOf (f i) c0 ⊗ fmod ⊘ srf) in
-    let breath = biOf (next (s .rng .0) / 2 ^ 40) in
+    let breath = biFrom (s .rng .0) in
     let lp = s .lp ⊕ lpA ⊗ (breath ⊖ s .lp) in
     record {
       sample = c0·9 ⊗ sinOf (TAU ⊗ phase) ⊕ (c0·02 ⊕ c0·03 ⊗ gain) ⊗ lp;

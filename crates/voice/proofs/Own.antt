@@ -1,5 +1,5 @@
 -- A note reads its pitch and its duty only at its own frames, and has as many samples as frames. Use where a note of a score is played alone. Assumes nothing.
-use Prim.Native.Nat.{ℕ, zero, suc, _<_}
+use Prim.Native.Nat.{ℕ, zero, suc}
 use mathlib.Core.Path.{_≡_, refl, ap}
 use native.Mathlib.Nat.{zero-lt-suc}
 use lib.ListN.{length}
@@ -7,6 +7,7 @@ use lib.Ieee.{Float}
 use Rattle.ieee.specs.Numbers.{f32}
 use Rattle.laws.specs.Run.{samples}
 use Rattle.laws.proofs.Fill.{samples-length}
+use Rattle.laws.proofs.Same.{Below}
 use Rattle.dsl.specs.declared.wave.SeqWave.{SeqWave}
 use Rattle.dsl.specs.declared.wave.SeqWave.the-variants.{Square, Triangle, Sawtooth, Sine, Noise, Fm, Pluck, Piano, Epiano, Organ, Strings, Brass, Flute, Mallet, Bell, Bass, Cowbell}
 use Rattle.waves.specs.Pulse.{squareFrames, triangleFrames}
@@ -34,12 +35,12 @@ use Rattle.voice.specs.declared.note.SeqVoice.{SeqVoice}
 
 module _ (r : ℕ) (v : SeqVoice) (gain : Float) (f f′ d d′ : ℕ → Float) (s : ℕ) where
   -- a pluck reads only its first pitch, and with no frame not even that
-  pluck-same : (n : ℕ) → ((i : ℕ) → i < n → f i ≡ f′ i) → pluckFrames (v .pluck) (f32 r) (periodOf r (f 0)) s n ≡ pluckFrames (v .pluck) (f32 r) (periodOf r (f′ 0)) s n
+  pluck-same : (n : ℕ) → Below f f′ n → pluckFrames (v .pluck) (f32 r) (periodOf r (f 0)) s n ≡ pluckFrames (v .pluck) (f32 r) (periodOf r (f′ 0)) s n
   unfolding ringFrames samples
   pluck-same zero h = refl
   pluck-same (suc n) h = ap (λ (first : Float). pluckFrames (v .pluck) (f32 r) (periodOf r first) s (suc n)) (h 0 (zero-lt-suc n))
 
-  wave-same : (w : SeqWave) (n : ℕ) → ((i : ℕ) → i < n → f i ≡ f′ i) → ((i : ℕ) → i < n → d i ≡ d′ i) → waveFrames w r v gain f d s n ≡ waveFrames w r v gain f′ d′ s n
+  wave-same : (w : SeqWave) (n : ℕ) → Below f f′ n → Below d d′ n → waveFrames w r v gain f d s n ≡ waveFrames w r v gain f′ d′ s n
   unfolding waveFrames
   wave-same Square n h e = squareSame f f′ (f32 r) n h d d′ e
   wave-same Triangle n h e = triangleSame f f′ (f32 r) n h
@@ -60,7 +61,7 @@ module _ (r : ℕ) (v : SeqVoice) (gain : Float) (f f′ d d′ : ℕ → Float)
   wave-same Cowbell n h e = cowbellSame f f′ (f32 r) n h
 
   -- pitches and duties that agree below n give the same n samples
-  pub note-same : (n : ℕ) → ((i : ℕ) → i < n → f i ≡ f′ i) → ((i : ℕ) → i < n → d i ≡ d′ i) → noteFrames r v gain f d s n ≡ noteFrames r v gain f′ d′ s n
+  pub note-same : (n : ℕ) → Below f f′ n → Below d d′ n → noteFrames r v gain f d s n ≡ noteFrames r v gain f′ d′ s n
   note-same = wave-same (v .wave)
 
 module _ (r : ℕ) (v : SeqVoice) (gain : Float) (f d : ℕ → Float) (s n : ℕ) where

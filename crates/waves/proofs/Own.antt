@@ -5,7 +5,7 @@ use native.Mathlib.Numerals.{add-one}
 use lib.Ieee.{Float}
 use Rattle.ieee.specs.Numbers.{c0}
 use Rattle.laws.specs.Run.{stateAt}
-use Rattle.laws.proofs.Same.{samples-same}
+use Rattle.laws.proofs.Same.{Below, samples-same}
 use Rattle.dsl.specs.declared.knobs.FmKnobs.{FmKnobs}
 use Rattle.dsp.specs.SplitMix64.{advance, stateAfter}
 use Rattle.dsp.specs.declared.rng.Rng.{Rng}
@@ -16,7 +16,7 @@ use Rattle.waves.specs.Fm.{fmAt, fmFrames}
 use Rattle.waves.specs.Cowbell.{cowbellAt, cowbellFrames}
 use Rattle.waves.specs.Noise.{noiseAt, noiseEnd}
 
-module _ (f f′ : ℕ → Float) (srf : Float) (n : ℕ) (same : (i : ℕ) → i < n → f i ≡ f′ i) where
+module _ (f f′ : ℕ → Float) (srf : Float) (n : ℕ) (same : Below f f′ n) where
   pub sawtoothSame : sawtoothFrames f srf n ≡ sawtoothFrames f′ srf n
   unfolding sawtoothFrames sawtoothAt
   sawtoothSame = samples-same (sawtoothAt f srf) (sawtoothAt f′ srf) _ _ c0 n (λ i h s. ap (λ (y : Float). sawtoothAt (λ j. y) srf i s) (same i h))
@@ -29,7 +29,7 @@ module _ (f f′ : ℕ → Float) (srf : Float) (n : ℕ) (same : (i : ℕ) → 
   unfolding triangleFrames triangleAt
   triangleSame = samples-same (triangleAt f srf) (triangleAt f′ srf) _ _ _ n (λ i h s. ap (λ (y : Float). triangleAt (λ j. y) srf i s) (same i h))
 
-  pub squareSame : (d d′ : ℕ → Float) → ((i : ℕ) → i < n → d i ≡ d′ i) → squareFrames f d srf n ≡ squareFrames f′ d′ srf n
+  pub squareSame : (d d′ : ℕ → Float) → Below d d′ n → squareFrames f d srf n ≡ squareFrames f′ d′ srf n
   unfolding squareFrames squareAt
   squareSame d d′ duty = samples-same (squareAt f d srf) (squareAt f′ d′ srf) _ _ c0 n (λ i h s j. squareAt (λ k. same i h j) (λ k. duty i h j) srf i s)
 

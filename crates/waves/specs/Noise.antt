@@ -1,15 +1,15 @@
 -- `SeqWave::Noise` of `seq_note_signal`: a `bi` a frame.
-use Prim.Native.Nat.{ℕ, _/_, _^_}
+use Prim.Native.Nat.{ℕ}
 use mathlib.Core.List.{List}
 use lib.Ieee.{Float}
 use Rattle.laws.specs.Run.{samples, stateAt}
-use Rattle.dsp.specs.SplitMix64.{advance, next}
-use Rattle.dsp.specs.Draw.{biOf}
+use Rattle.dsp.specs.SplitMix64.{advance}
+use Rattle.dsp.specs.Draw.{biFrom}
 use Rattle.dsp.specs.declared.rng.Rng.{Rng}
 use Rattle.waves.specs.declared.hiss.NoiseOut.{NoiseOut}
 
 unfoldable pub noiseAt : Rng → NoiseOut
-noiseAt rng = record { sample = biOf (next (rng .0) / 2 ^ 40); state = record { 0 = advance (rng .0) } }
+noiseAt rng = record { sample = biFrom (rng .0); state = record { 0 = advance (rng .0) } }
 
 unfoldable pub noiseFrames : Rng → ℕ → List Float
 unfolding noiseAt

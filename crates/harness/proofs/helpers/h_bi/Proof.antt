@@ -1,9 +1,7 @@
 -- `harness::helpers::h_bi` meets its contract: the generator that `bi` draws from stands at the state. Assumes nothing.
 use borrow.Author.Needs.{needs}
 use mathlib.Core.Path.{ap, _∙_}
-use Prim.Native.Nat.{ℕ, _/_, _^_}
-use Rattle.dsp.specs.SplitMix64.{next}
-use Rattle.dsp.specs.Draw.{biOf}
+use Rattle.dsp.specs.Draw.{biFrom}
 use Rattle.harness.proofs.helpers.h_bi.Statement.{statement}
 use Rattle.harness.proofs.helpers.h_bi.Tie as tie
 
@@ -14,7 +12,7 @@ bi-requires : tie.Need-bi-requires
 bi-requires c κs = search needs
 
 returns : tie.Need-returns
-returns c = c .bi .ensures .0 ∙ ap (λ (s : ℕ). biOf (next s / 2 ^ 40)) (c .before .new .ensures)
+returns c = c .bi .ensures .0 ∙ ap biFrom (c .before .new .ensures)
 
 pub h-bi-spec : {M : Type 1} → statement M
 h-bi-spec = tie.close (tie.spec new-requires bi-requires returns)

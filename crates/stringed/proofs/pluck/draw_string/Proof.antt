@@ -6,7 +6,8 @@ use borrow.Author.Needs.{needs}
 use lib.ListN.{length}
 use Rattle.laws.proofs.Fill.{Filled, filled-none, filled-length, filled-more-parts, filled-frames, filled-state}
 use Rattle.dsp.specs.SplitMix64.{advance}
-use Rattle.stringed.specs.Noise.{biFrom, noise}
+use Rattle.dsp.specs.Draw.{biFrom}
+use Rattle.stringed.specs.Noise.{noise}
 use Rattle.stringed.proofs.Noise.{noise-end}
 use Rattle.stringed.proofs.pluck.draw_string.Statement.{statement}
 use Rattle.stringed.proofs.pluck.draw_string.Tie as tie

@@ -1,0 +1,7 @@
+// What a score prints. Each function prints into a lent slice from a place on and answers the place
+// after it; all other bytes stay.
+mod digits; // digits.rt: bytes and numbers
+mod lines; // lines.rt: the lines G, F and R, and the listing
+
+pub use lines::put_listing;
+pub use lines::put_refusal;

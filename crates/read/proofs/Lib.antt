@@ -1,0 +1,11 @@
+pub mod Forms
+pub mod Reading
+pub mod Lines
+pub mod Small
+pub mod Shorter
+pub mod Gather
+pub mod Sounds
+pub mod Texts
+pub mod Said
+pub mod Whole
+pub mod Edges

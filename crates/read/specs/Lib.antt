@@ -1,0 +1,6 @@
+pub mod Read
+pub mod Line
+pub mod Voice
+pub mod Notes
+pub mod Text
+pub mod Answers

@@ -1,0 +1,51 @@
+-- The listing of a text score: "A text score past 15 and 16 gives what a list of its one score call gives, from the session that its G line opens."
+use Prim.Native.Nat.{ℕ}
+use mathlib.Core.List.{List, [], _∷_}
+use mathlib.Core.Bool.{Bool, true, cond}
+use lib.ListN.{length}
+use lib.Dec.{ltb}
+use lib.Ieee.{Float}
+use Rattle.dsp.specs.SplitMix64.{stateAfter}
+use Rattle.note.specs.Answer.{Result, refused, accepted}
+use Rattle.score.specs.Score.{scoreOf}
+use Rattle.score.specs.declared.session.Session.{Session}
+use Rattle.score.specs.declared.seq.Seq.{Seq}
+use Rattle.tally.specs.Tally.{Call, Tally, tally}
+use Rattle.read.specs.Read.{Read, got, broken}
+use Rattle.read.specs.Text.{Text, textOf}
+use Rattle.read.specs.Notes.{countOf}
+use Rattle.listing.specs.Lines.{listingOf, lineR}
+
+-- the score call of some numbers and a voice, note words and n frames: an empty lane ("Text pitches are numbers, never curves"), a note buffer of 2,048 values and a string
+-- buffer of 9,600, so that neither 20 nor 21 applies
+abbrev pub callOf : Seq → List ℕ → ℕ → Call
+callOf seq notes n = record { score = scoreOf seq notes [] n; room = 2048; string = 9600 }
+
+-- "prints G with the end state and draw count, then one F line a frame"; "A refused score prints one line alone"
+abbrev pub shownAt : ℕ → ℕ → Result → List ℕ
+shownAt state draw (refused number) = lineR number
+shownAt state draw (accepted draws frames) = listingOf state draw frames
+
+-- of a list of one call
+abbrev pub shownOne : ℕ → ℕ → List Result → List ℕ
+shownOne seed end [] = []
+shownOne seed end (r ∷ rs) = shownAt (stateAfter seed end) end r
+
+abbrev pub shown : ℕ → Tally → List ℕ
+shown seed t = shownOne seed (t .end) (t .results)
+
+-- what the one call gives, from the session opened with the seed at the draw
+unfoldable pub played : Seq → List ℕ → ℕ → ℕ → ℕ → List ℕ
+played seq notes n seed draw = shown seed (tally seed draw (callOf seq notes n ∷ []))
+
+-- "16 n above 2,048 or notes above 256"
+abbrev pub large : ℕ → ℕ → Bool
+large n count = cond (ltb 2048 n) true (ltb 256 count)
+
+abbrev pub listingRead : Read Text → List ℕ
+listingRead broken = lineR 15
+listingRead (got t rest) = cond (large (t .n) (countOf (t .notes))) (lineR 16) (played (t .seq) (t .notes) (t .n) (t .seed) (t .draw))
+
+-- "text only, before all others: 16 input above 65,536 bytes; 15 some line not of its form, a line missing or one too many; 16 n above 2,048 or notes above 256"
+unfoldable pub listing : List ℕ → List ℕ
+listing text = cond (ltb 65536 (length text)) (lineR 16) (listingRead (textOf text))

@@ -1,0 +1,52 @@
+// The text call.
+ghost use Prim.Native.Nat.{_≤_};
+ghost use lib.ListN.{length};
+ghost use Rattle.listing.specs.Printed.{Printed};
+ghost use Rattle.text.specs.Listing.{listing};
+ghost use Rattle.text.specs.Reply.{Replied};
+use crate::copy::copy_bytes;
+use crate::play::play_score;
+use read::Parsed;
+
+// Prints the listing of a text score at the start of `page`, and gives its length. A listing has at
+// most 40 bytes for its G line and 16 for each of 2,048 F lines.
+fn print_listing(text: &[u8], page: &mut [u8]) -> usize
+    requires { ⌜ 32808 ≤ length (now page) ⌝ }
+    ensures { λ r. ⌜ Printed (listing (now (text .entry))) 0 (now (page .entry)) r (now (page .exit)) ⌝ }
+{
+    if text.len() > 65536 {
+        return listing::put_refusal(page, 16);
+    }
+    let mut notes = [0u32; 1280];
+    let Parsed::Score(score) = read::read_score(text, &mut notes) else {
+        return listing::put_refusal(page, 15);
+    };
+    if score.n > 2048 {
+        return listing::put_refusal(page, 16);
+    }
+    if score.count > 256 {
+        return listing::put_refusal(page, 16);
+    }
+    let words = &notes[..score.count * 5];
+    play_score(score.seq, words, score.n as usize, score.seed, score.draw, page)
+}
+
+// The listing's length, or that the reply is shorter than the listing.
+pub enum Reply {
+    Listing(usize),
+    Short,
+}
+
+// Writes the listing of a text score at the start of `reply`; the bytes after it stay. Where it does
+// not fit, no byte changes.
+pub fn play_text(text: &[u8], reply: &mut [u8]) -> Reply
+    ensures { λ r. ⌜ Replied (now (text .entry)) (now (reply .entry)) r (now (reply .exit)) ⌝ }
+{
+    let mut page = [0u8; 32808];
+    let length = print_listing(text, &mut page);
+    if reply.len() < length {
+        return Reply::Short;
+    }
+    copy_bytes(&page, length, reply);
+    Reply::Listing(length)
+}

@@ -1,0 +1,8 @@
+// The text call: a text score's bytes to its listing.
+mod answer; // answer.rt: a score call's answer, printed
+mod call; // call.rt: the text call
+mod copy; // copy.rt: bytes into a reply
+mod play; // play.rt: the score call of a text score
+
+pub use call::Reply;
+pub use call::play_text;

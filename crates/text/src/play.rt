@@ -1,0 +1,40 @@
+// The score call of a text score.
+ghost use Prim.Native.Nat.{_≤_};
+ghost use lib.ListN.{length};
+ghost use Rattle.listing.specs.Printed.{Printed};
+ghost use Rattle.text.specs.Listing.{played};
+use crate::answer::print_answer;
+use score::Seq;
+use score::Session;
+
+// Plays n frames from the session that `seed` and `draw` open, prints the listing at the start of
+// `page`, and gives its length.
+pub fn play_score(
+    seq: Seq,
+    notes: &[u32],
+    n: usize,
+    seed: u64,
+    draw: u64,
+    page: &mut [u8],
+) -> usize
+    requires { ⌜ n ≤ 2048 ⌝ }
+    requires { ⌜ 32808 ≤ length (now page) ⌝ }
+    ensures { λ r. ⌜ Printed (played seq (now (notes .entry)) n seed draw) 0 (now (page .entry)) r (now (page .exit)) ⌝ }
+{
+    let lane = [0.0f32; 1];
+    let mut frames = [0.0f32; 2048];
+    let mut note_buf = [0.0f32; 2048];
+    let mut string = [0.0f32; 9600];
+    let session = Session::open(seed, draw);
+    let out = &mut frames[..n];
+    let answer = seq::render_seq(
+        session,
+        seq,
+        notes,
+        &lane[..0],
+        out,
+        &mut note_buf,
+        &mut string,
+    );
+    print_answer(page, answer, &frames[..n])
+}
