@@ -14,6 +14,6 @@ abbrev pub short : List ℕ → List ℕ → Bool
 short text reply = ltb (length reply) (length (listing text))
 
 -- The contract of a text call that is lent `reply₀` and leaves `reply`.
-pub record Replied (text reply₀ : List ℕ) (answer : Reply) (reply : List ℕ) : Type 0 where
-  pub answer : answer ≡ cond (short text reply₀) Short (Listing (length (listing text)))
+pub record Replied (text reply₀ : List ℕ) (said : Reply) (reply : List ℕ) : Type 0 where
+  pub answer : said ≡ cond (short text reply₀) Short (Listing (length (listing text)))
   pub bytes : reply ≡ cond (short text reply₀) reply₀ (listing text ++ drop (length (listing text)) reply₀)

@@ -4,12 +4,13 @@ ghost use lib.ListN.{length};
 ghost use Rattle.listing.specs.Printed.{Printed};
 ghost use Rattle.text.specs.Listing.{listing};
 ghost use Rattle.text.specs.Reply.{Replied};
+use crate::buffers::page_buffer;
+use crate::buffers::words_buffer;
 use crate::copy::copy_bytes;
 use crate::play::play_score;
 use read::Parsed;
 
-// Prints the listing of a text score at the start of `page`, and gives its length. A listing has at
-// most 40 bytes for its G line and 16 for each of 2,048 F lines.
+// Prints the listing of a text score at the start of `page`, and gives its length.
 fn print_listing(text: &[u8], page: &mut [u8]) -> usize
     requires { ⌜ 32808 ≤ length (now page) ⌝ }
     ensures { λ r. ⌜ Printed (listing (now (text .entry))) 0 (now (page .entry)) r (now (page .exit)) ⌝ }
@@ -17,7 +18,7 @@ fn print_listing(text: &[u8], page: &mut [u8]) -> usize
     if text.len() > 65536 {
         return listing::put_refusal(page, 16);
     }
-    let mut notes = [0u32; 1280];
+    let mut notes = words_buffer();
     let Parsed::Score(score) = read::read_score(text, &mut notes) else {
         return listing::put_refusal(page, 15);
     };
@@ -42,7 +43,7 @@ pub enum Reply {
 pub fn play_text(text: &[u8], reply: &mut [u8]) -> Reply
     ensures { λ r. ⌜ Replied (now (text .entry)) (now (reply .entry)) r (now (reply .exit)) ⌝ }
 {
-    let mut page = [0u8; 32808];
+    let mut page = page_buffer();
     let length = print_listing(text, &mut page);
     if reply.len() < length {
         return Reply::Short;

@@ -4,6 +4,8 @@ ghost use lib.ListN.{length};
 ghost use Rattle.listing.specs.Printed.{Printed};
 ghost use Rattle.text.specs.Listing.{played};
 use crate::answer::print_answer;
+use crate::buffers::frames_buffer;
+use crate::buffers::string_buffer;
 use score::Seq;
 use score::Session;
 
@@ -22,9 +24,9 @@ pub fn play_score(
     ensures { λ r. ⌜ Printed (played seq (now (notes .entry)) n seed draw) 0 (now (page .entry)) r (now (page .exit)) ⌝ }
 {
     let lane = [0.0f32; 1];
-    let mut frames = [0.0f32; 2048];
-    let mut note_buf = [0.0f32; 2048];
-    let mut string = [0.0f32; 9600];
+    let mut frames = frames_buffer();
+    let mut note_buf = frames_buffer();
+    let mut string = string_buffer();
     let session = Session::open(seed, draw);
     let out = &mut frames[..n];
     let answer = seq::render_seq(

@@ -10,6 +10,6 @@ use Rattle.text.specs.Listing.{listing}
 use Rattle.text.specs.Reply.{short}
 
 -- −23 is `negsuc 22`
-pub record Returned (score reply₀ : List ℕ) (answer : ℤ) (reply : List ℕ) : Type 0 where
-  pub answer : answer ≡ cond (short score reply₀) (negsuc 22) (pos (length (listing score)))
+pub record Returned (score reply₀ : List ℕ) (said : ℤ) (reply : List ℕ) : Type 0 where
+  pub answer : said ≡ cond (short score reply₀) (negsuc 22) (pos (length (listing score)))
   pub bytes : reply ≡ cond (short score reply₀) reply₀ (listing score ++ drop (length (listing score)) reply₀)
