@@ -25,7 +25,6 @@ impl Tried {
     }
 
     /// One more call of a kind that is worth a line.
-    #[cfg(feature = "score")]
     pub fn mark(&mut self, kind: &'static str) {
         *self.marked.entry(kind).or_default() += 1;
     }
