@@ -20,6 +20,7 @@ mod reference;
 mod score;
 mod score_calls;
 mod score_cases;
+mod score_kinds;
 mod score_random;
 mod score_vectors;
 mod tried;

@@ -151,6 +151,19 @@ fn try_list(list: u64, calls: u64, tried: &mut Tried) {
         if number == 0 && held.tally.draw == u64::MAX {
             tried.mark("accepted and at draw 2^64 - 1 after it");
         }
+        mark_kinds(score, number, tried);
+    }
+}
+
+fn mark_kinds(score: &Score, number: u32, tried: &mut Tried) {
+    if number == 0 {
+        for (kind, is) in score.kinds() {
+            tried.mark_wave(score.wave, kind, is);
+        }
+    }
+    if number == 6 {
+        let kind = "refused with 6 for a knob that the wave doesn't read";
+        tried.mark_wave(score.wave, kind, score.unread_knob());
     }
 }
 
