@@ -4,6 +4,9 @@ use crate::reference::all_sized;
 use crate::score::Score;
 use std::ops::Range;
 
+/// What it is, and whether a score is of that kind.
+pub type Kind = (&'static str, bool);
+
 /// A note that sounds: its five words, the frames that it sounds in, and the length before the cut.
 struct Sounded<'a> {
     words: &'a [u32],
@@ -48,48 +51,33 @@ impl Score {
     }
 
     /// Of an accepted score.
-    pub fn kinds(&self) -> Vec<(&'static str, bool)> {
+    pub fn kinds(&self) -> Vec<Kind> {
         let sounded = self.sounded();
-        let one = |is: &dyn Fn(&Sounded) -> bool| sounded.iter().any(is);
-        let two = |are: &dyn Fn(&Sounded, &Sounded) -> bool| {
-            let mut pairs = (1..sounded.len()).flat_map(|j| (0..j).map(move |i| (i, j)));
-            pairs.any(|(i, j)| are(&sounded[i], &sounded[j]))
-        };
-        let starts_before = |a: &Sounded, b: &Sounded| a.frames.start < b.frames.start;
+        let mut kinds = self.whole(&sounded).to_vec();
+        kinds.extend(single(&sounded));
+        kinds.extend(paired(&sounded));
+        kinds
+    }
+
+    fn whole(&self, sounded: &[Sounded]) -> [Kind; 5] {
+        let (notes, sounds) = (self.words.len() / 5, sounded.len());
         let own = own_knobs(self.wave);
-        let mut unused = (0..22).filter(|k| !own.contains(k));
-        vec![
-            ("with a curve", one(&|a| a.words[2] == 1)),
+        let unread = |k: &usize| !own.contains(k) && self.knobs[*k] != 0.0;
+        let odd = sounded.iter().any(|a| a.words[0] % 2 == 1);
+        [
             (
-                "with a skipped note beside others",
-                !sounded.is_empty() && sounded.len() < self.words.len() / 5,
+                "accepted with notes and no frames",
+                notes > 0 && self.out == 0,
             ),
             (
-                "with swing",
-                self.swing > 0.0 && one(&|a| a.words[0] % 2 == 1),
+                "accepted with a skipped note beside others",
+                sounds > 0 && sounds < notes,
             ),
-            ("with humanize", self.humanize > 0.0 && !sounded.is_empty()),
-            ("with notes that overlap", two(&|a, b| a.overlaps(b))),
+            ("accepted with swing", odd && self.swing > 0.0),
+            ("accepted with humanize", sounds > 0 && self.humanize > 0.0),
             (
-                "with notes that overlap, the later one first in the list",
-                two(&|a, b| a.overlaps(b) && starts_before(b, a)),
-            ),
-            (
-                "with a chord on one step",
-                two(&|a, b| a.words[0] == b.words[0]),
-            ),
-            (
-                "with notes and no frames",
-                self.out == 0 && !self.words.is_empty(),
-            ),
-            (
-                "with a note cut at the end",
-                one(&|a| a.frames.len() < a.length),
-            ),
-            ("with a negative gain", one(&|a| a.gain() < 0.0)),
-            (
-                "with knobs that the wave doesn't read",
-                !sounded.is_empty() && unused.any(|k| self.knobs[k] != 0.0),
+                "accepted with knobs that the wave doesn't read",
+                sounds > 0 && (0..22).any(|k| unread(&k)),
             ),
         ]
     }
@@ -99,4 +87,41 @@ impl Score {
         let own = own_knobs(self.wave);
         all_sized(&self.knobs[own]) && all_sized(&self.env) && all_sized(&[self.duty])
     }
+}
+
+fn single(sounded: &[Sounded]) -> [Kind; 3] {
+    let some = |is: fn(&Sounded) -> bool| sounded.iter().any(is);
+    [
+        ("accepted with a curve", some(|a| a.words[2] == 1)),
+        (
+            "accepted with a note cut at the end",
+            some(|a| a.frames.len() < a.length),
+        ),
+        ("accepted with a negative gain", some(|a| a.gain() < 0.0)),
+    ]
+}
+
+/// Of two notes, a before b in the list.
+fn paired(sounded: &[Sounded]) -> [Kind; 3] {
+    let some = |are: fn(&Sounded, &Sounded) -> bool| {
+        let mut ends = 1..=sounded.len();
+        ends.any(|end| {
+            let (b, before) = sounded[..end].split_last().expect("a note");
+            before.iter().any(|a| are(a, b))
+        })
+    };
+    [
+        (
+            "accepted with a chord on one step",
+            some(|a, b| a.words[0] == b.words[0]),
+        ),
+        (
+            "accepted with notes that overlap",
+            some(|a, b| a.overlaps(b)),
+        ),
+        (
+            "accepted with notes that overlap and are not listed by their starts",
+            some(|a, b| a.overlaps(b) && b.frames.start < a.frames.start),
+        ),
+    ]
 }

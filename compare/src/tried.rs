@@ -76,9 +76,9 @@ pub fn run(what: &str, share: impl Fn(u64) -> Tried + Sync) -> u64 {
         println!("  {count:>8} {kind}");
     }
     for (kind, counts) in &all.by_wave {
-        let least = WAVES.iter().min_by_key(|w| counts[w.0 as usize]);
-        let (place, wave, _) = least.expect("there are waves");
-        println!("  {:>8} {kind}, fewest: {wave}", counts[*place as usize]);
+        let least = WAVES.iter().map(|w| (counts[w.0 as usize], w.1)).min();
+        let (count, wave) = least.expect("there are waves");
+        println!("  {count:>8} or more of each wave {kind} ({wave})");
     }
     for line in all.lines.iter().take(SHOWN) {
         println!("  {line}");
