@@ -14,6 +14,7 @@ mod kernel_vectors;
 mod kernels;
 mod lent;
 mod libm;
+mod long_scores;
 mod note_calls;
 mod random;
 mod reference;
