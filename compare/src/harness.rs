@@ -50,8 +50,6 @@ mod raw {
             string: *mut f32,
             string_len: usize,
         ) -> u32;
-
-        #[cfg(feature = "score")]
         pub fn h_score(
             state: *mut u64,
             draw: *mut u64,
@@ -120,7 +118,6 @@ pub fn h_note(args: NoteArgs) -> u32 {
 }
 
 /// What a score call takes: the session, numbers, values to read, and what it is lent.
-#[cfg(feature = "score")]
 pub struct ScoreArgs<'a> {
     pub state: &'a mut u64,
     pub draw: &'a mut u64,
@@ -142,7 +139,6 @@ pub struct ScoreArgs<'a> {
 }
 
 /// The score call: a refusal's number, 0, or 4294967295 where no call is made.
-#[cfg(feature = "score")]
 pub fn h_score(args: ScoreArgs) -> u32 {
     // As above.
     unsafe {

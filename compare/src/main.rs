@@ -14,14 +14,14 @@ mod kernel_vectors;
 mod kernels;
 mod lent;
 mod libm;
+mod long_scores;
 mod note_calls;
 mod random;
 mod reference;
 mod score;
-#[cfg(feature = "score")]
 mod score_calls;
 mod score_cases;
-#[cfg(feature = "score")]
+mod score_kinds;
 mod score_random;
 mod score_vectors;
 mod tried;
@@ -67,9 +67,7 @@ fn main() -> ExitCode {
         ["voices", count] => counted(count, voices::run),
         ["notes"] => status(note_calls::run(note_calls::COUNT)),
         ["notes", count] => counted(count, note_calls::run),
-        #[cfg(feature = "score")]
         ["scores"] => status(score_calls::run(score_calls::COUNT)),
-        #[cfg(feature = "score")]
         ["scores", count] => counted(count, score_calls::run),
         ["voice-bench"] => done(voice_bench::run()),
         ["libm"] => done(libm::run(1)),

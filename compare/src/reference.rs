@@ -3,6 +3,7 @@
 
 use crate::random::{draw, state_at};
 use crate::waves::{envelope, voice_of, wave_at};
+use std::ops::Range;
 use tono::dsl::{SeqNote, SeqWave, Value};
 use tono::dsp::Rng;
 use tono::render::seq::shim::{groove, note_signal, render, Voice};
@@ -128,7 +129,7 @@ fn is_sized(x: f32) -> bool {
     x.is_finite() && x.abs() <= 65536.0
 }
 
-fn all_sized(values: &[f32]) -> bool {
+pub fn all_sized(values: &[f32]) -> bool {
     values.iter().all(|&x| is_sized(x))
 }
 
@@ -257,7 +258,7 @@ fn score_voice(call: &ScoreCall) -> Option<Voice> {
 
 impl ScoreCall<'_> {
     /// "Samples per step = rate × 60 / tempo / steps per beat, in f32."
-    fn samples_per_step(&self) -> f32 {
+    pub fn samples_per_step(&self) -> f32 {
         self.rate as f32 * 60.0 / self.tempo / self.steps_per_beat as f32
     }
 
@@ -282,20 +283,31 @@ impl ScoreCall<'_> {
         }
     }
 
-    /// A note's draws. "A note with start ≥ n is skipped, any other is sounded"; "Sounded frames =
-    /// min(n − start, length)".
-    fn draws(&self, voice: &Voice, note: &SeqNote) -> u128 {
+    /// The frames that a note sounds in. "A note with start ≥ n is skipped, any other is sounded";
+    /// "Sounded frames = min(n − start, length)".
+    fn place(&self, voice: &Voice, note: &SeqNote) -> Option<Range<usize>> {
         let (start, _) = groove(voice, note, self.samples_per_step());
-        if start >= self.out {
+        let left = self.out.checked_sub(start).filter(|&left| left > 0)?;
+        Some(start..start + left.min(self.length(note.len)))
+    }
+
+    /// The same of each note of an accepted call.
+    pub fn places(&self) -> Vec<Option<Range<usize>>> {
+        let voice = score_voice(self).expect("a call was made");
+        let notes = self.words.chunks_exact(5);
+        notes.map(|w| self.place(&voice, &self.note(w))).collect()
+    }
+
+    fn draws(&self, voice: &Voice, note: &SeqNote) -> u128 {
+        let Some(frames) = self.place(voice, note) else {
             return 0;
-        }
-        let sounded = (self.out - start).min(self.length(note.len));
+        };
         let first_pitch = match &note.pitch {
             Value::Const(pitch) => *pitch,
             Value::Modulated(curve) => curve[0],
             Value::Note(_) => panic!("no note names"),
         };
-        draws_of(voice.wave, self.rate, first_pitch, sounded) as u128
+        draws_of(voice.wave, self.rate, first_pitch, frames.len()) as u128
     }
 }
 

@@ -3,10 +3,12 @@
 use crate::engine::THREADS;
 use crate::harness::{h_score, ScoreArgs};
 use crate::lent::{Lent, LentNumber};
+use crate::long_scores::{long, longest};
 use crate::random::Source;
 use crate::reference::{self, Tally};
 use crate::score::Score;
 use crate::tried::{self, first_of, Tried};
+use crate::waves::WAVES;
 
 /// How many calls are tried where no number is given.
 pub const COUNT: u64 = 1_000_000;
@@ -151,39 +153,28 @@ fn try_list(list: u64, calls: u64, tried: &mut Tried) {
         if number == 0 && held.tally.draw == u64::MAX {
             tried.mark("accepted and at draw 2^64 - 1 after it");
         }
+        mark_kinds(score, number, tried);
     }
 }
 
-/// Scores as long as the domain goes: empty, and with noise all through and at the very end.
-fn try_longest(tried: &mut Tried) {
-    let mut s = Source::new(0);
+fn mark_kinds(score: &Score, number: u32, tried: &mut Tried) {
+    if number == 0 {
+        for (kind, is) in score.kinds() {
+            tried.mark_wave(score.wave, kind, is);
+        }
+    }
+    if number == 6 {
+        let kind = "refused with 6 for a knob that the wave doesn't read";
+        tried.mark_wave(score.wave, kind, score.unread_knob());
+    }
+}
+
+/// These scores on one session.
+fn try_long(name: &str, scores: &[Score], tried: &mut Tried) {
     let mut held = Held::open(1, 2);
-    let gain = 1f32.to_bits();
-    // at 180 frames a step
-    let all = [0, 1_048_575, 0, 0, gain];
-    let last = [93_206, 1, 0, 0, gain];
-    for words in [vec![], [all, last].concat()] {
-        let score = Score {
-            rate: 192_000,
-            tempo: 1000.0,
-            steps_per_beat: 64,
-            swing: 0.0,
-            humanize: 0.0,
-            wave: 4,
-            duty: 0.5,
-            knobs: vec![0.5; 22],
-            env: vec![0.0, 0.0, 1.0, 0.0, 0.0],
-            words,
-            lane: Vec::new(),
-            out: 16_777_216,
-            note_buf: 16_777_216,
-            string: 9600,
-        };
-        let (number, differs) = held.play(&score, s.number());
-        tried.add(
-            number,
-            differs.map(|what| format!("the longest score: {what}")),
-        );
+    for score in scores {
+        let (number, differs) = held.play(score, 3);
+        tried.add(number, differs.map(|what| format!("{name}: {what}")));
     }
 }
 
@@ -196,7 +187,10 @@ fn calls_before(list: u64) -> u64 {
 fn share(first: u64, count: u64) -> Tried {
     let mut tried = Tried::default();
     if first == 0 {
-        try_longest(&mut tried);
+        try_long("the longest score", &longest(), &mut tried);
+    }
+    for (place, name, _) in WAVES.iter().skip(first as usize).step_by(THREADS) {
+        try_long(&format!("a long {name}"), &[long(*place)], &mut tried);
     }
     for list in (first..).step_by(THREADS) {
         let before = calls_before(list);

@@ -14,7 +14,11 @@ impl Score {
     /// Half of them have a wave that draws.
     pub fn random(s: &mut Source) -> Score {
         let mut score = Score::played(s);
-        for _ in 0..s.below(6) {
+        let notes = match s.below(16) {
+            0 => s.below(40),
+            _ => s.below(6),
+        };
+        for _ in 0..notes {
             score.add_note(s);
         }
         for _ in 0..s.pick(&[0, 0, 0, 0, 1, 1, 2, 3]) {
@@ -66,8 +70,13 @@ impl Score {
         }
     }
 
+    /// Mostly at a step that starts within the frames or just after them, often at one that has a note.
     fn add_note(&mut self, s: &mut Source) {
-        let step = steps(s, 12);
+        let within = self.out as f32 / self.call().samples_per_step();
+        let step = match s.below(5) {
+            0 if !self.words.is_empty() => self.words[self.words.len() - 5],
+            _ => steps(s, within as u64 + 2),
+        };
         let len = steps(s, 6);
         let fits = self.call().length(len) <= self.lane.len();
         let curve = s.below(if fits { 2 } else { 40 }) == 0;

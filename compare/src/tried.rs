@@ -2,13 +2,18 @@
 
 use crate::engine::{in_threads, SHOWN};
 use crate::reference::NO_CALL;
+use crate::waves::WAVES;
 use std::collections::BTreeMap;
 use std::time::Instant;
+
+/// The places that waves stand at, and one that is empty.
+const PLACES: usize = 18;
 
 #[derive(Default)]
 pub struct Tried {
     outcomes: BTreeMap<u32, u64>,
     marked: BTreeMap<&'static str, u64>,
+    by_wave: BTreeMap<&'static str, [u64; PLACES]>,
     differ: u64,
     lines: Vec<String>,
 }
@@ -25,9 +30,13 @@ impl Tried {
     }
 
     /// One more call of a kind that is worth a line.
-    #[cfg(feature = "score")]
     pub fn mark(&mut self, kind: &'static str) {
         *self.marked.entry(kind).or_default() += 1;
+    }
+
+    /// Whether one more call of this wave is of a kind; the fewest calls of any wave are worth a line.
+    pub fn mark_wave(&mut self, wave: u32, kind: &'static str, is: bool) {
+        self.by_wave.entry(kind).or_default()[wave as usize] += is as u64;
     }
 
     fn join(mut self, other: Tried) -> Tried {
@@ -36,6 +45,10 @@ impl Tried {
         }
         for (kind, count) in other.marked {
             *self.marked.entry(kind).or_default() += count;
+        }
+        for (kind, counts) in other.by_wave {
+            let all = self.by_wave.entry(kind).or_default();
+            all.iter_mut().zip(counts).for_each(|(a, b)| *a += b);
         }
         self.differ += other.differ;
         self.lines.extend(other.lines);
@@ -61,6 +74,11 @@ pub fn run(what: &str, share: impl Fn(u64) -> Tried + Sync) -> u64 {
     }
     for (kind, count) in &all.marked {
         println!("  {count:>8} {kind}");
+    }
+    for (kind, counts) in &all.by_wave {
+        let least = WAVES.iter().map(|w| (counts[w.0 as usize], w.1)).min();
+        let (count, wave) = least.expect("there are waves");
+        println!("  {count:>8} or more of each wave {kind} ({wave})");
     }
     for line in all.lines.iter().take(SHOWN) {
         println!("  {line}");

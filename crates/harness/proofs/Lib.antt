@@ -1,1 +1,3 @@
-mod Exports
+mod Ends
+mod NoteEnds
+mod ScoreEnds

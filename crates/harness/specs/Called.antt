@@ -1,6 +1,8 @@
 -- What an exported call comes to: the numbers that C gets, and what it leaves.
-use Prim.Native.Nat.{ℕ}
+use Prim.Native.Nat.{ℕ, _+_}
+use mathlib.Core.Path.{_≡_}
 use mathlib.Core.List.{List}
+use lib.ListN.{drop}
 use lib.Ieee.{Float}
 use Rattle.dsp.specs.SplitMix64.{stateAfter}
 use Rattle.note.specs.Answer.{Result, refused, accepted, outAfter, free}
@@ -37,6 +39,15 @@ abbrev pub stateAfterCall : ℕ → Called → ℕ
 stateAfterCall s none = s
 stateAfterCall s (made r) = stateAfterResult s r
 
+-- what the count's place holds; d is what it held before
+abbrev pub drawAfterResult : ℕ → Result → ℕ
+drawAfterResult d (refused number) = d
+drawAfterResult d (accepted draws frames) = d + draws
+
+abbrev pub drawAfterCall : ℕ → Called → ℕ
+drawAfterCall d none = d
+drawAfterCall d (made r) = drawAfterResult d r
+
 abbrev pub outAfterCall : List Float → Called → List Float
 outAfterCall out none = out
 outAfterCall out (made r) = outAfter out r
@@ -45,3 +56,23 @@ outAfterCall out (made r) = outAfter out r
 abbrev pub freeAfterCall : ℕ → Called → ℕ
 freeAfterCall m none = 0
 freeAfterCall m (made r) = free m r
+
+-- What every exported call answers, and what the places hold that it is lent: those with ₀ before it, the others after it.
+pub record Places : Type 0 where
+  pub number : ℕ
+  pub state₀ : ℕ
+  pub state : ℕ
+  pub draws₀ : ℕ
+  pub draws : ℕ
+  pub out₀ : List Float
+  pub out : List Float
+  pub string₀ : List Float
+  pub string : List Float
+
+-- They hold what the call comes to. With none made nothing changes; the string's first 9,600 values are free after an accepted call.
+pub record Holds (x : Called) (p : Places) : Type 0 where
+  pub number : p .number ≡ numberOfCall x
+  pub draws : p .draws ≡ drawsAfterCall (p .draws₀) x
+  pub state : p .state ≡ stateAfterCall (p .state₀) x
+  pub frames : p .out ≡ outAfterCall (p .out₀) x
+  pub string : drop (freeAfterCall 9600 x) (p .string) ≡ drop (freeAfterCall 9600 x) (p .string₀)

@@ -1,4 +1,4 @@
--- The voice of a wave's place and 22 knob values, which stand in the order of node.rs: fm 3, pluck 4, piano 5, bass 10.
+-- The voice of a wave's place and 22 knob values, which stand in the order of node.rs: fm 3, pluck 4, piano 5, bass 10; and the envelope of 5 values.
 use Prim.Native.Nat.{ℕ}
 use mathlib.Core.List.{List}
 use mathlib.Core.Bool.{cond}
@@ -10,11 +10,15 @@ use Rattle.dsl.specs.declared.knobs.FmKnobs.{FmKnobs}
 use Rattle.dsl.specs.declared.knobs.PluckKnobs.{PluckKnobs}
 use Rattle.dsl.specs.declared.knobs.PianoKnobs.{PianoKnobs}
 use Rattle.dsl.specs.declared.knobs.BassKnobs.{BassKnobs}
+use Rattle.dsl.specs.declared.knobs.Adsr.{Adsr}
 use Rattle.dsl.specs.declared.wave.WaveAt.{WaveAt}
 use Rattle.dsl.specs.declared.wave.WaveAt.the-variants.{Wave}
 use Rattle.dsl.specs.declared.wave.WaveAt.the-variants as places
 use Rattle.harness.specs.declared.knobs.VoiceAt.{VoiceAt}
 use Rattle.harness.specs.declared.knobs.VoiceAt.the-variants.{Voice, Nothing}
+use Rattle.harness.specs.declared.knobs.EnvAt.{EnvAt}
+use Rattle.harness.specs.declared.knobs.EnvAt.the-variants.{Env}
+use Rattle.harness.specs.declared.knobs.EnvAt.the-variants as envelopes
 
 abbrev pub fmOf : List Float → FmKnobs
 fmOf k = record { «fm_ratio» = getD k 0 nan; «fm_index» = getD k 1 nan; «fm_strike» = getD k 2 nan }
@@ -52,3 +56,10 @@ voiceIn places.Nothing k = Nothing
 -- Nothing, where there are not 22 knobs or no wave has the place
 unfoldable pub voiceAt : ℕ → List Float → VoiceAt
 voiceAt place k = cond (eqb (length k) 22) (voiceIn (waveAt place) k) Nothing
+
+abbrev pub envOf : List Float → Adsr
+envOf x = record { a = getD x 0 nan; d = getD x 1 nan; s = getD x 2 nan; r = getD x 3 nan; punch = getD x 4 nan }
+
+-- Nothing, where there are not 5 values
+unfoldable pub envAt : List Float → EnvAt
+envAt x = cond (eqb (length x) 5) (Env (envOf x)) envelopes.Nothing

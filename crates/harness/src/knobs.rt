@@ -1,7 +1,8 @@
-// The voice of a wave's place and of 22 knobs.
+// The voice of a wave's place and of 22 knobs, and the envelope of 5 values.
 ghost use mathlib.Core.Path.{_≡_};
 ghost use lib.ListN.{length};
-ghost use Rattle.harness.specs.Knobs.{fmOf, pluckOf, pianoOf, bassOf, voiceAt};
+ghost use Rattle.harness.specs.Knobs.{fmOf, pluckOf, pianoOf, bassOf, voiceAt, envAt};
+use dsl::Adsr;
 use dsl::BassKnobs;
 use dsl::FmKnobs;
 use dsl::PianoKnobs;
@@ -13,6 +14,12 @@ use voice::SeqVoice;
 // A voice, or nothing where there is no such wave or there are not 22 knobs.
 pub enum VoiceAt {
     Voice(SeqVoice),
+    Nothing,
+}
+
+// An envelope, or nothing where there are not 5 values.
+pub enum EnvAt {
+    Env(Adsr),
     Nothing,
 }
 
@@ -89,5 +96,20 @@ pub fn voice_at(wave: u32, knobs: &[f32]) -> VoiceAt
         pluck,
         piano,
         bass,
+    })
+}
+
+pub fn env_at(env: &[f32]) -> EnvAt
+    ensures { λ r. ⌜ r ≡ envAt (now (env .entry)) ⌝ }
+{
+    if env.len() != 5 {
+        return EnvAt::Nothing;
+    }
+    EnvAt::Env(Adsr {
+        a: env[0],
+        d: env[1],
+        s: env[2],
+        r: env[3],
+        punch: env[4],
     })
 }

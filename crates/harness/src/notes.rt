@@ -1,5 +1,5 @@
 // The note call from C.
-ghost use Rattle.harness.specs.Note.{Exported};
+ghost use Rattle.harness.specs.Note.{NoteExported};
 use crate::knobs::VoiceAt;
 use crate::knobs::voice_at;
 use dsp::Rng;
@@ -21,22 +21,24 @@ pub extern "C" fn h_note(
     out: &mut [f32],
     string: &mut [f32],
 ) -> u32
-    ensures { λ r. ⌜ Exported (record {
+    ensures { λ r. ⌜ NoteExported (record {
       rate = rate;
       wave = wave;
       knobs = now (knobs .entry);
       gain = gain;
-      state₀ = now (state .entry);
-      draws₀ = now (draws .entry);
       pitch = now (pitch .entry);
       duty = now (duty .entry);
-      out₀ = now (out .entry);
-      string₀ = now (string .entry);
-      number = r;
-      state = now (state .exit);
-      draws = now (draws .exit);
-      out = now (out .exit);
-      string = now (string .exit);
+      places = record {
+        number = r;
+        state₀ = now (state .entry);
+        state = now (state .exit);
+        draws₀ = now (draws .entry);
+        draws = now (draws .exit);
+        out₀ = now (out .entry);
+        out = now (out .exit);
+        string₀ = now (string .entry);
+        string = now (string .exit);
+      };
     }) ⌝ }
 {
     let VoiceAt::Voice(voice) = voice_at(wave, knobs) else {

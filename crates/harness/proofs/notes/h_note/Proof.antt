@@ -1,6 +1,7 @@
 -- `harness::notes::h_note` meets its contract. Assumes nothing.
 use mathlib.Core.Path.{refl, sym, _∙_}
-use Rattle.harness.proofs.Exports.{not-called, refused-call, accepted-call}
+use Rattle.harness.proofs.Ends.{none-holds}
+use Rattle.harness.proofs.NoteEnds.{not-called, refused-call, accepted-call}
 use borrow.Author.Needs.{needs}
 use Rattle.harness.proofs.notes.h_note.Statement.{statement}
 use Rattle.harness.proofs.notes.h_note.Tie as tie
@@ -15,7 +16,7 @@ enum-told : tie.Need-enum-told
 enum-told c = search needs
 
 returns : tie.Need-returns
-returns c = not-called _ (sym (c .enum-told .given .1) ∙ c .before .before .voice-at .ensures) refl refl refl refl refl
+returns c = not-called _ (sym (c .enum-told .given .1) ∙ c .before .before .voice-at .ensures) (none-holds _ refl refl refl refl refl)
 
 new-requires : tie.Need-new-requires
 new-requires c κs = search needs

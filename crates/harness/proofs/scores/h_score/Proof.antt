@@ -1,0 +1,100 @@
+-- `harness::scores::h_score` meets its contract. Assumes nothing.
+use mathlib.Core.Path.{refl, sym, _∙_}
+use Rattle.harness.proofs.Ends.{none-holds}
+use Rattle.harness.proofs.ScoreEnds.{no-voice, no-envelope, refused-call, accepted-call}
+use borrow.Author.Needs.{needs}
+use Rattle.harness.proofs.scores.h_score.Statement.{statement}
+use Rattle.harness.proofs.scores.h_score.Tie as tie
+
+voice-at-requires : tie.Need-voice-at-requires
+voice-at-requires c κs = search needs
+
+enum-known-voice : tie.Need-enum-known-voice
+enum-known-voice c = search needs
+
+enum-told : tie.Need-enum-told
+enum-told c = search needs
+
+returns : tie.Need-returns
+returns c = no-voice _ (sym (c .enum-told .given .1) ∙ c .before .before .voice-at .ensures) (none-holds _ refl refl refl refl refl) (refl, refl)
+
+env-at-requires : tie.Need-env-at-requires
+env-at-requires c κs = search needs
+
+enum-known-env : tie.Need-enum-known-env
+enum-known-env c = search needs
+
+enum-told-2 : tie.Need-enum-told-2
+enum-told-2 c = search needs
+
+returns-2 : tie.Need-returns-2
+returns-2 c = no-envelope _ _ (sym (c .before .before .before .before .voice .given .1) ∙ c .before .before .before .before .before .before .voice-at .ensures) (sym (c .enum-told2 .given .1) ∙ c .before .before .env-at .ensures) (none-holds _ refl refl refl refl refl) (refl, refl)
+
+new-requires : tie.Need-new-requires
+new-requires c κs = search needs
+
+render-seq-requires : tie.Need-render-seq-requires
+render-seq-requires c κs = search needs
+
+enum-known-outcome : tie.Need-enum-known-outcome
+enum-known-outcome c = search needs
+
+state-requires : tie.Need-state-requires
+state-requires c κs = search needs
+
+enum-known-outcome-2 : tie.Need-enum-known-outcome-2
+enum-known-outcome-2 c = search needs
+
+number-requires : tie.Need-number-requires
+number-requires c κs = search needs
+
+same-length : tie.Need-same-length
+same-length c = search needs
+
+same-length-2 : tie.Need-same-length-2
+same-length-2 c = search needs
+
+same-length-3 : tie.Need-same-length-3
+same-length-3 c = search needs
+
+returns-3 : tie.Need-returns-3
+returns-3 c = accepted-call _ _ (sym (c .before .before .before .before .before .before .before .before .before .before .before .before .before .before .before .before .before .before .before .before .before .before .before .voice .given .1) ∙ c .before .before .before .before .before .before .before .before .before .before .before .before .before .before .before .before .before .before .before .before .before .before .before .before .before .voice-at .ensures) _ _ _ (sym (c .before .before .before .before .before .before .before .before .before .before .before .before .before .before .before .before .before .before .before .env .given .1) ∙ c .before .before .before .before .before .before .before .before .before .before .before .before .before .before .before .before .before .before .before .before .before .env-at .ensures) (c .before .before .before .before .before .before .before .before .before .before .before .before .before .before .before .before .new .ensures) (c .before .before .before .before .before .before .before .before .before .before .before .render-seq .ensures) _ (c .before .before .before .outcome .given .1) refl refl (c .state .ensures) refl
+
+same-length-4 : tie.Need-same-length-4
+same-length-4 c = search needs
+
+same-length-5 : tie.Need-same-length-5
+same-length-5 c = search needs
+
+same-length-6 : tie.Need-same-length-6
+same-length-6 c = search needs
+
+returns-4 : tie.Need-returns-4
+returns-4 c = refused-call _ _ (sym (c .before .before .before .before .before .before .before .before .before .before .before .before .before .before .before .before .before .before .before .before .before .before .voice .given .1) ∙ c .before .before .before .before .before .before .before .before .before .before .before .before .before .before .before .before .before .before .before .before .before .before .before .before .voice-at .ensures) _ _ _ (sym (c .before .before .before .before .before .before .before .before .before .before .before .before .before .before .before .before .before .before .env .given .1) ∙ c .before .before .before .before .before .before .before .before .before .before .before .before .before .before .before .before .before .before .before .before .env-at .ensures) (c .before .before .before .before .before .before .before .before .before .before .before .before .before .before .before .new .ensures) (c .before .before .before .before .before .before .before .before .before .before .render-seq .ensures) _ (c .before .before .outcome2 .given .1) (c .number .ensures) refl refl refl
+
+pub h-score-spec : {M : Type 1} → statement M
+h-score-spec =
+    tie.close
+    (tie.spec
+    voice-at-requires
+    enum-known-voice
+    enum-told
+    returns
+    env-at-requires
+    enum-known-env
+    enum-told-2
+    returns-2
+    new-requires
+    render-seq-requires
+    enum-known-outcome
+    state-requires
+    enum-known-outcome-2
+    number-requires
+    same-length
+    same-length-2
+    same-length-3
+    returns-3
+    same-length-4
+    same-length-5
+    same-length-6
+    returns-4)

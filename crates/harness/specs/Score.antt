@@ -1,0 +1,67 @@
+-- A score call from C: the score call's own definition, from numbers.
+use Prim.Native.Nat.{ℕ}
+use mathlib.Core.Path.{_≡_}
+use mathlib.Core.List.{List}
+use lib.ListN.{length, drop}
+use lib.Ieee.{Float}
+use Rattle.dsl.specs.declared.knobs.Adsr.{Adsr}
+use Rattle.voice.specs.declared.note.SeqVoice.{SeqVoice}
+use Rattle.score.specs.Score.{Score, scoreOf}
+use Rattle.score.specs.ScoreCall.{resultOf}
+use Rattle.score.specs.declared.seq.Seq.{Seq}
+use Rattle.harness.specs.Knobs.{voiceAt, envAt}
+use Rattle.harness.specs.Called.{Called, none, made, drawAfterCall, freeAfterCall, Places, Holds}
+use Rattle.harness.specs.declared.knobs.VoiceAt.{VoiceAt}
+use Rattle.harness.specs.declared.knobs.VoiceAt.the-variants.{Voice}
+use Rattle.harness.specs.declared.knobs.VoiceAt.the-variants as voices
+use Rattle.harness.specs.declared.knobs.EnvAt.{EnvAt}
+use Rattle.harness.specs.declared.knobs.EnvAt.the-variants.{Env}
+use Rattle.harness.specs.declared.knobs.EnvAt.the-variants as envelopes
+
+-- What was handed in, and what was lent and answered. `draw` is the session's count, `buffer` the note buffer.
+pub record ScoreExport : Type 0 where
+  pub rate : ℕ
+  pub tempo : Float
+  pub «steps_per_beat» : ℕ
+  pub swing : Float
+  pub humanize : Float
+  pub wave : ℕ
+  pub duty : Float
+  pub knobs : List Float
+  pub env : List Float
+  pub notes : List ℕ
+  pub lane : List Float
+  pub draw₀ : ℕ
+  pub draw : ℕ
+  pub buffer₀ : List Float
+  pub buffer : List Float
+  pub places : Places
+
+abbrev pub seqWith : SeqVoice → Adsr → ScoreExport → Seq
+seqWith v a e = record {
+  rate = e .rate;
+  tempo = e .tempo;
+  «steps_per_beat» = e .«steps_per_beat»;
+  swing = e .swing;
+  humanize = e .humanize;
+  voice = v;
+  duty = e .duty;
+  env = a;
+}
+
+abbrev pub scoreWith : SeqVoice → Adsr → ScoreExport → Score
+scoreWith v a e = scoreOf (seqWith v a e) (e .notes) (e .lane) (length (e .places .out₀))
+
+abbrev pub calledWith : VoiceAt → EnvAt → ScoreExport → Called
+calledWith (Voice v) (Env a) e = made (resultOf (scoreWith v a e) (length (e .buffer₀)) (length (e .places .string₀)) (e .places .state₀) (e .draw₀))
+calledWith (Voice v) envelopes.Nothing e = none
+calledWith voices.Nothing env e = none
+
+abbrev pub calledIn : ScoreExport → Called
+calledIn e = calledWith (voiceAt (e .wave) (e .knobs)) (envAt (e .env)) e
+
+-- The contract: all is as in the score call of that voice and envelope. The note buffer's first n values are free after an accepted call.
+pub record ScoreExported (e : ScoreExport) : Type 0 where
+  pub places : Holds (calledIn e) (e .places)
+  pub draw : e .draw ≡ drawAfterCall (e .draw₀) (calledIn e)
+  pub buffer : drop (freeAfterCall (length (e .places .out₀)) (calledIn e)) (e .buffer) ≡ drop (freeAfterCall (length (e .places .out₀)) (calledIn e)) (e .buffer₀)

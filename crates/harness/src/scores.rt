@@ -1,0 +1,100 @@
+// The score call from C.
+ghost use Rattle.harness.specs.Score.{ScoreExported};
+use crate::knobs::EnvAt;
+use crate::knobs::VoiceAt;
+use crate::knobs::env_at;
+use crate::knobs::voice_at;
+use dsp::Rng;
+use note::Outcome;
+use score::Seq;
+use score::Session;
+
+// 0 where the call is accepted, else the refusal's number. `state` is the state of the session's
+// generator, not its seed, and `draw` the session's count; both change only with an accepted call.
+// `draws` gets the draws made, 0 for a refusal. Where there is no such wave or there are not 22 knobs
+// and 5 numbers of an envelope, the answer is 4294967295 and nothing changes.
+#[no_mangle]
+pub extern "C" fn h_score(
+    state: &mut u64,
+    draw: &mut u64,
+    draws: &mut u64,
+    rate: u32,
+    tempo: f32,
+    steps_per_beat: u32,
+    swing: f32,
+    humanize: f32,
+    wave: u32,
+    duty: f32,
+    knobs: &[f32],
+    env: &[f32],
+    notes: &[u32],
+    lane: &[f32],
+    out: &mut [f32],
+    note_buf: &mut [f32],
+    string: &mut [f32],
+) -> u32
+    ensures { λ r. ⌜ ScoreExported (record {
+      rate = rate;
+      tempo = tempo;
+      «steps_per_beat» = «steps_per_beat»;
+      swing = swing;
+      humanize = humanize;
+      wave = wave;
+      duty = duty;
+      knobs = now (knobs .entry);
+      env = now (env .entry);
+      notes = now (notes .entry);
+      lane = now (lane .entry);
+      draw₀ = now (draw .entry);
+      draw = now (draw .exit);
+      buffer₀ = now («note_buf» .entry);
+      buffer = now («note_buf» .exit);
+      places = record {
+        number = r;
+        state₀ = now (state .entry);
+        state = now (state .exit);
+        draws₀ = now (draws .entry);
+        draws = now (draws .exit);
+        out₀ = now (out .entry);
+        out = now (out .exit);
+        string₀ = now (string .entry);
+        string = now (string .exit);
+      };
+    }) ⌝ }
+{
+    let VoiceAt::Voice(voice) = voice_at(wave, knobs) else {
+        return u32::MAX;
+    };
+    let EnvAt::Env(env) = env_at(env) else {
+        return u32::MAX;
+    };
+    let seq = Seq {
+        rate,
+        tempo,
+        steps_per_beat,
+        swing,
+        humanize,
+        voice,
+        duty,
+        env,
+    };
+    let session = Session {
+        rng: Rng::new(*state),
+        draw: *draw,
+    };
+    let answer = seq::render_seq(session, seq, notes, lane, out, note_buf, string);
+    let outcome = answer.outcome;
+    match outcome {
+        Outcome::Played(made) => {
+            let after = answer.session;
+            *state = after.rng.state();
+            *draw = after.draw;
+            *draws = made;
+            0
+        }
+        Outcome::Refused(refusal) => {
+            *draws = 0;
+            refusal.number()
+        }
+    }
+}
