@@ -1,2 +1,3 @@
 mod Shown
 mod Copied
+pub mod Replying

@@ -4,11 +4,9 @@ use mathlib.Core.List.{List, [], _∷_}
 use mathlib.Core.Bool.{Bool, true, cond}
 use lib.ListN.{length}
 use lib.Dec.{ltb}
-use lib.Ieee.{Float}
 use Rattle.dsp.specs.SplitMix64.{stateAfter}
 use Rattle.note.specs.Answer.{Result, refused, accepted}
 use Rattle.score.specs.Score.{scoreOf}
-use Rattle.score.specs.declared.session.Session.{Session}
 use Rattle.score.specs.declared.seq.Seq.{Seq}
 use Rattle.tally.specs.Tally.{Call, Tally, tally}
 use Rattle.read.specs.Read.{Read, got, broken}

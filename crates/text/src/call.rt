@@ -29,7 +29,14 @@ fn print_listing(text: &[u8], page: &mut [u8]) -> usize
         return listing::put_refusal(page, 16);
     }
     let words = &notes[..score.count * 5];
-    play_score(score.seq, words, score.n as usize, score.seed, score.draw, page)
+    play_score(
+        score.seq,
+        words,
+        score.n as usize,
+        score.seed,
+        score.draw,
+        page,
+    )
 }
 
 // The listing's length, or that the reply is shorter than the listing.

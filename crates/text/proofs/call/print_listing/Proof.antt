@@ -1,108 +1,96 @@
+-- `text::call::print_listing` meets its contract. Assumes nothing.
+use Prim.Native.Nat.{_*_, _≤_}
+use mathlib.Core.Path.{sym}
+use native.Mathlib.Omega.{arith}
+use lib.ListN.{length}
+use lib.Seq.{length-take-le}
+use Rattle.read.proofs.Said.{parsed-broken, parsed-score, said-words}
+use Rattle.listing.proofs.Put.{printed-as}
+use Rattle.text.proofs.Shown.{listing-long, listing-broken, listing-frames, listing-notes, listing-played}
 use borrow.Author.Needs.{needs}
 use Rattle.text.proofs.call.print_listing.Statement.{statement}
 use Rattle.text.proofs.call.print_listing.Tie as tie
-use Rattle.text.proofs.call.print_listing.Reads as reads
-use Rattle.text.proofs.call.print_listing.Lts as lts
-use Rattle.listing.proofs.put_refusal.Reads as put-refusal-reads
-use Rattle.read.proofs.read_score.Reads as read-score-reads
-use Rattle.text.proofs.buffers.words_buffer.Reads as words-buffer-reads
-use Rattle.text.proofs.play.play_score.Reads as play-score-reads
 
--- src/call.rt:19:9
 put-refusal-requires : tie.Need-put-refusal-requires
-put-refusal-requires c κs = search needs
+put-refusal-requires c κs = let p = c .before .before .before .before .pre in omega arith
 
--- src/call.rt:19:9
 same-length : tie.Need-same-length
 same-length c = search needs
 
--- src/call.rt:19:9
 returns : tie.Need-returns
-returns c = ?
+returns c = printed-as (listing-long _ (c .before .before .before .before .if1 .taken)) (c .before .before .put-refusal .ensures)
 
--- src/call.rt:21:21
 words-buffer-requires : tie.Need-words-buffer-requires
 words-buffer-requires c κs = search needs
 
--- src/call.rt:22:55
 slice-aggregate-read-score : tie.Need-slice-aggregate-read-score
 slice-aggregate-read-score c = search needs
 
--- src/call.rt:22:32
 read-score-requires : tie.Need-read-score-requires
 read-score-requires c κs = search needs
 
--- src/call.rt:22:23
 enum-known-score : tie.Need-enum-known-score
 enum-known-score c = search needs
 
--- src/call.rt:23:37
 enum-told : tie.Need-enum-told
 enum-told c = search needs
 
--- src/call.rt:23:9
 put-refusal-requires-2 : tie.Need-put-refusal-requires-2
-put-refusal-requires-2 c κs = search needs
+put-refusal-requires-2 c κs = let p = c .before .before .before .before .before .before .before .before .before .before .pre in omega arith
 
--- src/call.rt:23:9
 same-length-2 : tie.Need-same-length-2
 same-length-2 c = search needs
 
--- src/call.rt:23:9
 returns-2 : tie.Need-returns-2
-returns-2 c = ?
+returns-2 c = printed-as (listing-broken _ (c .before .before .before .before .before .before .before .before .before .before .if1 .left) (parsed-broken (c .before .before .before .before .before .before .before .read-score .ensures) (c .before .before .before .before .enum-told .given .1))) (c .before .before .put-refusal2 .ensures)
 
--- src/call.rt:26:9
 put-refusal-requires-3 : tie.Need-put-refusal-requires-3
-put-refusal-requires-3 c κs = search needs
+put-refusal-requires-3 c κs = let p = c .before .before .before .before .before .before .before .before .before .before .before .before .before .pre in omega arith
 
--- src/call.rt:26:9
 same-length-3 : tie.Need-same-length-3
 same-length-3 c = search needs
 
--- src/call.rt:26:9
 returns-3 : tie.Need-returns-3
-returns-3 c = ?
+returns-3 c = printed-as (listing-frames _ (c .before .before .before .before .before .before .before .before .before .before .before .before .before .if1 .left) (parsed-score (c .before .before .before .before .before .before .before .before .before .before .read-score .ensures) (c .before .before .before .before .before .before .before .score .given .1)) (c .before .before .before .before .if2 .taken)) (c .before .before .put-refusal3 .ensures)
 
--- src/call.rt:29:9
 put-refusal-requires-4 : tie.Need-put-refusal-requires-4
-put-refusal-requires-4 c κs = search needs
+put-refusal-requires-4 c κs = let p = c .before .before .before .before .before .before .before .before .before .before .before .before .before .before .before .pre in omega arith
 
--- src/call.rt:29:9
 same-length-4 : tie.Need-same-length-4
 same-length-4 c = search needs
 
--- src/call.rt:29:9
 returns-4 : tie.Need-returns-4
-returns-4 c = ?
+returns-4 c = printed-as (listing-notes _ (c .before .before .before .before .before .before .before .before .before .before .before .before .before .before .before .if1 .left) (parsed-score (c .before .before .before .before .before .before .before .before .before .before .before .before .read-score .ensures) (c .before .before .before .before .before .before .before .before .before .score .given .1)) (c .before .before .before .before .before .before .if2 .left) (c .before .before .before .before .if3 .taken)) (c .before .before .put-refusal4 .ensures)
 
--- src/call.rt:31:26
 mul-notes : tie.Need-mul-notes
 mul-notes c = search needs
 
--- src/call.rt:31:17
 array-share-prefix-notes : tie.Need-array-share-prefix-notes
-array-share-prefix-notes c = search needs
+array-share-prefix-notes c =
+    let room : c .before .before .before .before .before .before .score .given .0 .0 .count * 5 ≤ length (c .before .before .before .before .before .before .before .before .before .before .before .words-buffer .result) = omega (arith, c .before .before .before .before .before .before .before .before .before .before .before .words-buffer .ensures, c .before .if3 .left) in
+    let kept = c .before .before .before .before .before .before .before .before .before .read-score .kept .1 .0 in
+    omega arith
 
--- src/call.rt:31:9
 slice-aggregate-words : tie.Need-slice-aggregate-words
-slice-aggregate-words c = ?
+slice-aggregate-words c =
+    let room : c .before .before .before .before .before .before .before .score .given .0 .0 .count * 5 ≤ length (c .before .before .before .before .before .before .before .before .before .before .before .before .words-buffer .result) = omega (arith, c .before .before .before .before .before .before .before .before .before .before .before .before .words-buffer .ensures, c .before .before .if3 .left) in
+    let kept = c .before .before .before .before .before .before .before .before .before .before .read-score .kept .1 .0 in
+    sym (length-take-le _ _ (omega arith))
 
--- src/call.rt:32:34
 cast-play-score : tie.Need-cast-play-score
 cast-play-score c = search needs
 
--- src/call.rt:32:5
 play-score-requires : tie.Need-play-score-requires
-play-score-requires c κs = ?
+play-score-requires c κs = (c .before .before .before .before .before .before .if2 .left, c .before .before .before .before .before .before .before .before .before .before .before .before .before .before .before .before .before .before .pre)
 
--- src/call.rt:14:1
 same-length-5 : tie.Need-same-length-5
 same-length-5 c = search needs
 
--- src/call.rt:14:1
 returns-5 : tie.Need-returns-5
-returns-5 c = ?
+returns-5 c =
+    let room : c .before .before .before .before .before .before .before .before .before .before .before .before .score .given .0 .0 .count * 5 ≤ length (c .before .before .before .before .before .before .before .before .before .before .before .before .before .before .before .before .before .words-buffer .result) = omega (arith, c .before .before .before .before .before .before .before .before .before .before .before .before .before .before .before .before .before .words-buffer .ensures, c .before .before .before .before .before .before .before .if3 .left) in
+    let said = (parsed-score (c .before .before .before .before .before .before .before .before .before .before .before .before .before .before .before .read-score .ensures) (c .before .before .before .before .before .before .before .before .before .before .before .before .score .given .1)) in
+    printed-as (listing-played _ (c .before .before .before .before .before .before .before .before .before .before .before .before .before .before .before .before .before .before .if1 .left) said (c .before .before .before .before .before .before .before .before .before .if2 .left) (c .before .before .before .before .before .before .before .if3 .left) _ (said-words said room)) (c .before .before .play-score .ensures)
 
 pub print-listing-spec : {M : Type 1} → statement M
 print-listing-spec =

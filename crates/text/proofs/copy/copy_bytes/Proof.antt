@@ -1,45 +1,45 @@
+-- `text::copy::copy_bytes` meets its contract. Assumes nothing.
+use Prim.Native.Nat.{_-_, _≤_}
+use mathlib.Core.Path.{refl, ap, _∙_}
+use mathlib.Core.List.{List, _++_}
+use native.Mathlib.Omega.{arith}
+use lib.ListN.{drop}
+use Rattle.laws.proofs.Fill.{Filled, filled-none, filled-more, filled-part, filled-length}
+use Rattle.text.proofs.Copied.{element, copied}
+use borrow.Author.Needs.{needs}
+use Prim.Native.Nat.{ℕ}
 use Rattle.text.proofs.copy.copy_bytes.Statement.{statement}
 use Rattle.text.proofs.copy.copy_bytes.Tie as tie
-use Rattle.text.proofs.copy.copy_bytes.Reads as reads
-use Rattle.text.proofs.copy.copy_bytes.Lts as lts
 
 abbrev Inv-loop : tie.InvT-loop
-Inv-loop page n reply₀ i₀ reply i = ?
+Inv-loop page n reply₀ i₀ reply i = Filled (element page) (λ y. y) (λ y. 0) 0 reply₀ i reply 0 × i ≤ n
 
 abbrev μ-loop : tie.MeasureT-loop
-μ-loop page n reply₀ i₀ reply i = ?
+μ-loop page n reply₀ i₀ reply i = n - i
 
--- src/copy.rt:14:5
 loop-holds : tie.Need-loop-holds Inv-loop μ-loop
-loop-holds c = ?
+loop-holds c = (filled-none, omega arith)
 
--- src/copy.rt:15:20
 shared-slice-read-reply : tie.Need-shared-slice-read-reply Inv-loop μ-loop
-shared-slice-read-reply c = ?
+shared-slice-read-reply c = omega arith
 
--- src/copy.rt:15:9
 slice-write-reply : tie.Need-slice-write-reply Inv-loop μ-loop
-slice-write-reply c = ?
+slice-write-reply c = omega (arith, filled-length (c .before .before .loop .inv .0))
 
--- src/copy.rt:16:9
 add-i : tie.Need-add-i Inv-loop μ-loop
-add-i c = ?
+add-i c = search needs
 
--- src/copy.rt:14:5
 loop-less : tie.Need-loop-less Inv-loop μ-loop
-loop-less c = ?
+loop-less c = omega arith
 
--- src/copy.rt:14:5
 loop-again : tie.Need-loop-again Inv-loop μ-loop
-loop-again c = ?
+loop-again c = (filled-more (c .before .before .loop .inv .0) (omega arith) refl, omega arith)
 
--- src/copy.rt:8:1
 same-length : tie.Need-same-length Inv-loop μ-loop
-same-length c = ?
+same-length c = filled-length (c .before .loop .inv .0)
 
--- src/copy.rt:8:1
 returns : tie.Need-returns Inv-loop μ-loop
-returns c = ?
+returns c = let a = c .before .before .args in filled-part (c .before .loop .inv .0) (omega arith) ∙ ap (λ (l : List ℕ). l ++ drop (a .n) (a .reply .now)) (copied (a .page .now) (a .n) (c .before .before .pre .0))
 
 pub copy-bytes-spec : {M : Type 1} → statement M
 copy-bytes-spec =

@@ -1,77 +1,99 @@
+-- `text::play::play_score` meets its contract. Assumes nothing.
+use Prim.Native.Nat.{_≤_}
+use mathlib.Core.Path.{_≡_, sym, ap, _∙_}
+use mathlib.Core.List.{[]}
+use native.Mathlib.Omega.{arith}
+use lib.ListN.{length, drop, length-append}
+use lib.Seq.{length-take-le, take-at}
+use Rattle.score.specs.Score.{scoreOf}
+use Rattle.listing.proofs.Put.{printed-as}
+use Rattle.text.proofs.Shown.{played-by}
 use borrow.Author.Needs.{needs}
 use Rattle.text.proofs.play.play_score.Statement.{statement}
 use Rattle.text.proofs.play.play_score.Tie as tie
-use Rattle.text.proofs.play.play_score.Reads as reads
-use Rattle.text.proofs.play.play_score.Lts as lts
-use Rattle.score.proofs.session.Session.open.Reads as open-reads
-use Rattle.seq.proofs.render_seq.Reads as render-seq-reads
-use Rattle.text.proofs.answer.print_answer.Reads as print-answer-reads
-use Rattle.text.proofs.buffers.frames_buffer.Reads as frames-buffer-reads
-use Rattle.text.proofs.buffers.string_buffer.Reads as string-buffer-reads
 
--- src/play.rt:27:22
 frames-buffer-requires : tie.Need-frames-buffer-requires
 frames-buffer-requires c κs = search needs
 
--- src/play.rt:28:24
 frames-buffer-requires-2 : tie.Need-frames-buffer-requires-2
 frames-buffer-requires-2 c κs = search needs
 
--- src/play.rt:29:22
 string-buffer-requires : tie.Need-string-buffer-requires
 string-buffer-requires c κs = search needs
 
--- src/play.rt:30:9
 open-requires : tie.Need-open-requires
 open-requires c κs = search needs
 
--- src/play.rt:31:15
 array-borrow-prefix-frames : tie.Need-array-borrow-prefix-frames
-array-borrow-prefix-frames c = search needs
+array-borrow-prefix-frames c =
+    let a = c .before .before .before .before .before .before .args in
+    let l = c .before .before .before .frames-buffer .result in
+    let fits : a .n ≤ length l = omega (arith, c .before .before .before .frames-buffer .ensures, c .before .before .before .before .before .before .pre .0) in
+    fits
 
--- src/play.rt:31:9
 slice-aggregate-out : tie.Need-slice-aggregate-out
-slice-aggregate-out c = ?
+slice-aggregate-out c =
+    let a = c .before .before .before .before .before .before .before .args in
+    let l = c .before .before .before .before .frames-buffer .result in
+    let fits : a .n ≤ length l = omega (arith, c .before .before .before .before .frames-buffer .ensures, c .before .before .before .before .before .before .before .pre .0) in
+    sym (length-take-le (a .n) l fits)
 
--- src/play.rt:36:9
 array-share-prefix-lane : tie.Need-array-share-prefix-lane
 array-share-prefix-lane c = search needs
 
--- src/play.rt:36:9
 slice-aggregate-render-seq : tie.Need-slice-aggregate-render-seq
 slice-aggregate-render-seq c = search needs
 
--- src/play.rt:38:9
 slice-aggregate-render-seq-2 : tie.Need-slice-aggregate-render-seq-2
 slice-aggregate-render-seq-2 c = search needs
 
--- src/play.rt:39:9
 slice-aggregate-render-seq-3 : tie.Need-slice-aggregate-render-seq-3
 slice-aggregate-render-seq-3 c = search needs
 
--- src/play.rt:32:9
 render-seq-requires : tie.Need-render-seq-requires
 render-seq-requires c κs = search needs
 
--- src/play.rt:41:32
 array-share-prefix-frames : tie.Need-array-share-prefix-frames
-array-share-prefix-frames c = ?
+array-share-prefix-frames c =
+    let a = c .before .before .before .before .before .before .before .before .before .before .before .before .before .before .before .args in
+    let l = c .before .before .before .before .before .before .before .before .before .before .before .before .frames-buffer .result in
+    let fits : a .n ≤ length l = omega (arith, c .before .before .before .before .before .before .before .before .before .before .before .before .frames-buffer .ensures, c .before .before .before .before .before .before .before .before .before .before .before .before .before .before .before .pre .0) in
+    let v = c .before .before .before .before .render-seq in
+    let len : length (v .last .1 .1 .1 .1 .0) ≡ a .n = v .kept .1 .1 .1 .1 .0 ∙ length-take-le (a .n) l fits in
+    omega (arith, len, length-append (v .last .1 .1 .1 .1 .0) (drop (a .n) l))
 
--- src/play.rt:41:32
 slice-aggregate-print-answer : tie.Need-slice-aggregate-print-answer
-slice-aggregate-print-answer c = ?
+slice-aggregate-print-answer c =
+    let a = c .before .before .before .before .before .before .before .before .before .before .before .before .before .before .before .before .args in
+    let l = c .before .before .before .before .before .before .before .before .before .before .before .before .before .frames-buffer .result in
+    let fits : a .n ≤ length l = omega (arith, c .before .before .before .before .before .before .before .before .before .before .before .before .before .frames-buffer .ensures, c .before .before .before .before .before .before .before .before .before .before .before .before .before .before .before .before .pre .0) in
+    let v = c .before .before .before .before .before .render-seq in
+    let len : length (v .last .1 .1 .1 .1 .0) ≡ a .n = v .kept .1 .1 .1 .1 .0 ∙ length-take-le (a .n) l fits in
+    sym (ap length (take-at (v .last .1 .1 .1 .1 .0) (drop (a .n) l) (a .n) len) ∙ len)
 
--- src/play.rt:41:5
 print-answer-requires : tie.Need-print-answer-requires
-print-answer-requires c κs = ?
+print-answer-requires c κs =
+    let a = c .before .before .before .before .before .before .before .before .before .before .before .before .before .before .before .before .args in
+    let l = c .before .before .before .before .before .before .before .before .before .before .before .before .before .frames-buffer .result in
+    let fits : a .n ≤ length l = omega (arith, c .before .before .before .before .before .before .before .before .before .before .before .before .before .frames-buffer .ensures, c .before .before .before .before .before .before .before .before .before .before .before .before .before .before .before .before .pre .0) in
+    let v = c .before .before .before .before .before .render-seq in
+    let len : length (v .last .1 .1 .1 .1 .0) ≡ a .n = v .kept .1 .1 .1 .1 .0 ∙ length-take-le (a .n) l fits in
+    let e = ap length (take-at (v .last .1 .1 .1 .1 .0) (drop (a .n) l) (a .n) len) ∙ len in
+    (omega (arith, e, c .before .before .before .before .before .before .before .before .before .before .before .before .before .before .before .before .pre .0), c .before .before .before .before .before .before .before .before .before .before .before .before .before .before .before .before .pre .1)
 
--- src/play.rt:14:1
 same-length : tie.Need-same-length
 same-length c = search needs
 
--- src/play.rt:14:1
 returns : tie.Need-returns
-returns c = ?
+returns c =
+    let a = c .before .before .before .before .before .before .before .before .before .before .before .before .before .before .before .before .before .before .before .args in
+    let l = c .before .before .before .before .before .before .before .before .before .before .before .before .before .before .before .before .frames-buffer .result in
+    let fits : a .n ≤ length l = omega (arith, c .before .before .before .before .before .before .before .before .before .before .before .before .before .before .before .before .frames-buffer .ensures, c .before .before .before .before .before .before .before .before .before .before .before .before .before .before .before .before .before .before .before .pre .0) in
+    let v = c .before .before .before .before .before .before .before .before .render-seq in
+    let len : length (v .last .1 .1 .1 .1 .0) ≡ a .n = v .kept .1 .1 .1 .1 .0 ∙ length-take-le (a .n) l fits in
+    let heard = take-at (v .last .1 .1 .1 .1 .0) (drop (a .n) l) (a .n) len in
+    let printed = rw heard at (c .before .before .print-answer .ensures) in
+    printed-as (played-by (a .seq) (a .notes .now) (a .n) (a .seed) (a .draw) _ _ (c .before .before .before .before .before .before .before .before .before .before .before .before .before .«open» .ensures) (v .ensures) (λ j. record { score = scoreOf (a .seq) (a .notes .now) [] (length-take-le (a .n) l fits j); room = sym (c .before .before .before .before .before .before .before .before .before .before .before .before .before .before .before .frames-buffer2 .ensures) j; string = sym (c .before .before .before .before .before .before .before .before .before .before .before .before .before .before .string-buffer .ensures) j })) printed
 
 pub play-score-spec : {M : Type 1} → statement M
 play-score-spec =

@@ -1,0 +1,33 @@
+-- A listing that was printed on a page, and the reply that it is copied to. Assumes nothing.
+use Prim.Native.Nat.{ℕ, _+_, _≤_, _<_}
+use mathlib.Core.Path.{_≡_, refl, ap, _∙_}
+use mathlib.Core.List.{List, _++_}
+use native.Mathlib.Omega.{arith}
+use native.Mathlib.Nat.{zero-add}
+use borrow.Author.Tests.{lt-ltb, le-ltb}
+use lib.ListN.{length, take, drop, length-append}
+use Rattle.laws.proofs.If.{if-true, if-false}
+use Rattle.listing.specs.Printed.{Printed, put}
+use Rattle.listing.proofs.Put.{printed-text}
+use Rattle.text.specs.Listing.{listing}
+use Rattle.text.specs.Reply.{Replied}
+use Rattle.text.specs.declared.call.Reply.the-variants.{Listing, Short}
+
+module _ (text reply₀ : List ℕ) {page₀ page : List ℕ} {n : ℕ} (p : Printed (listing text) 0 page₀ n page) where
+  size : n ≡ length (listing text)
+  size = p .after ∙ zero-add (length (listing text))
+
+  pub replied-short : length reply₀ < n → Replied text reply₀ Short reply₀
+  replied-short h = let t = lt-ltb _ _ (rw size at h) in record { answer = if-true _ t refl; bytes = if-true _ t refl }
+
+  pub replied-whole : {reply : List ℕ} → n ≤ length reply₀ → reply ≡ take n page ++ drop n reply₀ → Replied text reply₀ (Listing n) reply
+  replied-whole h e =
+      let t = le-ltb _ _ (rw size at h) in record {
+        answer = if-false _ t (ap Listing size);
+        bytes = if-false _ t (e ∙ (λ j. printed-text p j ++ drop (size j) reply₀));
+      }
+
+-- what was printed fits on its page
+pub printed-fits : {l page₀ page : List ℕ} {n : ℕ} → Printed l 0 page₀ n page → n ≤ length page
+unfolding put
+printed-fits {l} {page₀} {page} {n} p = omega (arith, p .after, ap length (p .bytes), length-append l (drop (0 + length l) page₀))

@@ -1,0 +1,54 @@
+-- `tono::tono_play` meets its contract. Assumes nothing.
+use Prim.Native.Nat.{ℕ, _≤_}
+use native.Mathlib.Omega.{arith}
+use borrow.Author.Needs.{sfits-of}
+use mir.Facts.{toZ-ofZ}
+use mir.Val.{SFits}
+use mir.Syntax.{w64}
+use lib.ListN.{length}
+use lib.IntN.{pos}
+use Rattle.tono.proofs.Returning.{length-within, returned-length, returned-short}
+use borrow.Author.Needs.{needs}
+use Rattle.tono.proofs.tono_play.Statement.{statement}
+use Rattle.tono.proofs.tono_play.Tie as tie
+
+-- a slice has fewer than 2^63 bytes
+length-fits : (c : tie.Start) (n : ℕ) → n ≤ length (c .args .reply .now) → SFits w64 (pos n)
+length-fits c n h = sfits-of (omega arith)
+
+play-text-requires : tie.Need-play-text-requires
+play-text-requires c κs = search needs
+
+enum-known-length : tie.Need-enum-known-length
+enum-known-length c = search needs
+
+cast-result : tie.Need-cast-result
+cast-result c = length-fits (c .before .before .before .before .before .before .before .before .before) _ (length-within (c .before .before .before .before .before .play-text .ensures) _ (c .before .length .given .1))
+
+enum-told : tie.Need-enum-told
+enum-told c = search needs
+
+same-length : tie.Need-same-length
+same-length c = search needs
+
+returns : tie.Need-returns
+returns c = returned-length (c .before .before .before .before .before .play-text .ensures) _ (c .before .length .given .1) _ (toZ-ofZ (length-fits (c .before .before .before .before .before .before .before .before .before) _ (length-within (c .before .before .before .before .before .play-text .ensures) _ (c .before .length .given .1))))
+
+same-length-2 : tie.Need-same-length-2
+same-length-2 c = search needs
+
+returns-2 : tie.Need-returns-2
+returns-2 c = returned-short (c .before .before .before .before .play-text .ensures) (c .enum-told .given .1)
+
+pub tono-play-spec : {M : Type 1} → statement M
+tono-play-spec =
+    tie.close
+    (tie.spec
+    play-text-requires
+    enum-known-length
+    cast-result
+    enum-told
+    same-length
+    returns
+    same-length-2
+    returns-2)
