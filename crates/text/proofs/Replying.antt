@@ -2,15 +2,17 @@
 use Prim.Native.Nat.{ℕ, _+_, _≤_, _<_}
 use mathlib.Core.Path.{_≡_, refl, ap, _∙_}
 use mathlib.Core.List.{List, _++_}
+use mathlib.Core.Bool.{Bool, true, false, cond}
 use native.Mathlib.Omega.{arith}
 use native.Mathlib.Nat.{zero-add}
-use borrow.Author.Tests.{lt-ltb, le-ltb}
+use borrow.Author.Tests.{lt-ltb, le-ltb, ltb-false}
 use lib.ListN.{length, take, drop, length-append}
 use Rattle.laws.proofs.If.{if-true, if-false}
 use Rattle.listing.specs.Printed.{Printed, put}
 use Rattle.listing.proofs.Put.{printed-text}
 use Rattle.text.specs.Listing.{listing}
-use Rattle.text.specs.Reply.{Replied}
+use Rattle.text.specs.Reply.{short, Replied}
+use Rattle.text.specs.declared.call.Reply.{Reply}
 use Rattle.text.specs.declared.call.Reply.the-variants.{Listing, Short}
 
 module _ (text reply₀ : List ℕ) {page₀ page : List ℕ} {n : ℕ} (p : Printed (listing text) 0 page₀ n page) where
@@ -31,3 +33,16 @@ module _ (text reply₀ : List ℕ) {page₀ page : List ℕ} {n : ℕ} (p : Pri
 pub printed-fits : {l page₀ page : List ℕ} {n : ℕ} → Printed l 0 page₀ n page → n ≤ length page
 unfolding put
 printed-fits {l} {page₀} {page} {n} p = omega (arith, p .after, ap length (p .bytes), length-append l (drop (0 + length l) page₀))
+
+-- ---- what a reply says
+listed-is : (b : Bool) (n m : ℕ) → Listing n ≡ cond b Short (Listing m) → (b ≡ false) × (n ≡ m)
+listed-is true n m e = (cc, cc)
+listed-is false n m e = (refl, cc)
+
+module _ {text reply₀ reply : List ℕ} {said : Reply} (h : Replied text reply₀ said reply) (n : ℕ) (told : said ≡ Listing n) where
+  pub listed : (short text reply₀ ≡ false) × (n ≡ length (listing text))
+  listed = listed-is (short text reply₀) n (length (listing text)) (rw told at (h .answer))
+
+  -- the listing is within the reply
+  pub length-within : n ≤ length reply₀
+  length-within = omega (arith, listed .1, ltb-false (length reply₀) (length (listing text)) (listed .0))

@@ -1,21 +1,16 @@
 -- The text call's reply as a C number. Assumes nothing.
-use Prim.Native.Nat.{ℕ, _≤_}
+use Prim.Native.Nat.{ℕ}
 use mathlib.Core.Path.{_≡_, refl, ap, _∙_}
 use mathlib.Core.List.{List}
 use mathlib.Core.Bool.{Bool, true, false, cond}
-use native.Mathlib.Omega.{arith}
-use borrow.Author.Tests.{ltb-false}
 use lib.ListN.{length}
 use lib.IntN.{ℤ, pos, negsuc}
 use Rattle.text.specs.Listing.{listing}
 use Rattle.text.specs.Reply.{short, Replied}
 use Rattle.text.specs.declared.call.Reply.{Reply}
 use Rattle.text.specs.declared.call.Reply.the-variants.{Listing, Short}
+use Rattle.text.proofs.Replying.{listed}
 use Rattle.tono.specs.Returned.{Returned}
-
-listed-is : (b : Bool) (n m : ℕ) → Listing n ≡ cond b Short (Listing m) → (b ≡ false) × (n ≡ m)
-listed-is true n m e = (cc, cc)
-listed-is false n m e = (refl, cc)
 
 short-is : (b : Bool) (m : ℕ) → Short ≡ cond b Short (Listing m) → b ≡ true
 short-is true m e = refl
@@ -23,16 +18,9 @@ short-is false m e = cc
 
 module _ {score reply₀ reply : List ℕ} {said : Reply} (h : Replied score reply₀ said reply) where
   module _ (n : ℕ) (told : said ≡ Listing n) where
-    listed : (short score reply₀ ≡ false) × (n ≡ length (listing score))
-    listed = listed-is (short score reply₀) n (length (listing score)) (rw told at (h .answer))
-
-    -- the listing is within the reply
-    pub length-within : n ≤ length reply₀
-    length-within = omega (arith, listed .1, ltb-false (length reply₀) (length (listing score)) (listed .0))
-
     pub returned-length : (z : ℤ) → z ≡ pos n → Returned score reply₀ z reply
     returned-length z e = record {
-      answer = rw (listed .0) (e ∙ ap pos (listed .1));
+      answer = rw (listed h n told .0) (e ∙ ap pos (listed h n told .1));
       bytes = h .bytes;
     }
 

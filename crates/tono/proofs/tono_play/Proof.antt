@@ -7,7 +7,8 @@ use mir.Val.{SFits}
 use mir.Syntax.{w64}
 use lib.ListN.{length}
 use lib.IntN.{pos}
-use Rattle.tono.proofs.Returning.{length-within, returned-length, returned-short}
+use Rattle.text.proofs.Replying.{length-within}
+use Rattle.tono.proofs.Returning.{returned-length, returned-short}
 use borrow.Author.Needs.{needs}
 use Rattle.tono.proofs.tono_play.Statement.{statement}
 use Rattle.tono.proofs.tono_play.Tie as tie
