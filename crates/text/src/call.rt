@@ -7,6 +7,7 @@ ghost use Rattle.text.specs.Reply.{Replied};
 use crate::buffers::page_buffer;
 use crate::buffers::words_buffer;
 use crate::copy::copy_bytes;
+use crate::copy::written_bytes;
 use crate::play::play_score;
 use read::Parsed;
 
@@ -52,9 +53,10 @@ pub fn play_text(text: &[u8], reply: &mut [u8]) -> Reply
 {
     let mut page = page_buffer();
     let length = print_listing(text, &mut page);
-    if reply.len() < length {
+    let room = reply.len();
+    copy_bytes(&page, written_bytes(length, room), reply);
+    if room < length {
         return Reply::Short;
     }
-    copy_bytes(&page, length, reply);
     Reply::Listing(length)
 }
