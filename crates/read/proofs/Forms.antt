@@ -4,7 +4,7 @@ use mathlib.Core.Path.{_≡_, refl}
 use mathlib.Core.List.{List}
 use mathlib.Core.Bool.{Bool, true, false, cond}
 use native.Mathlib.Omega.{arith}
-use Rattle.read.specs.Read.{Read, got, broken, after}
+use Rattle.digits.specs.Read.{Read, got, broken, after}
 
 pub broken-got : {A : Type 0} {P : Type 0} {v : A} {r : List ℕ} → broken ≡ got v r → P
 broken-got {A} {P} {v} {r} e = let z : _≡_ {A = ℕ} 0 1 = cc in absurd (omega arith)

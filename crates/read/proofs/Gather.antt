@@ -5,14 +5,14 @@ use mathlib.Core.List.{List, [], _∷_, _++_, append-nil, append-assoc}
 use native.Mathlib.Omega.{arith}
 use lib.ListN.{length, take, drop, set, getD, length-append, drop-of-length-le}
 use lib.Seq.{sets-eq, take-at, drop-append-add, drop-drop}
-use Rattle.read.specs.Read.{Read, got, broken}
+use Rattle.digits.specs.Read.{Read, got, broken}
 use Rattle.read.specs.Line.{before, line}
 use Rattle.read.specs.Notes.{note, notesOf, orElse, wordsOf, formN, formShort, gain1, Noted}
 use Rattle.read.specs.Answers.{noteIn}
 use Rattle.read.specs.declared.notes.LineN.{LineN}
 use Rattle.read.specs.declared.notes.LineN.the-variants as line-n
 use Rattle.read.specs.declared.notes.Count.the-variants.{Lines, Broken}
-use Rattle.read.proofs.Reading.{head}
+use Rattle.digits.proofs.Reading.{head}
 use Rattle.read.proofs.Lines.{before-none, before-before, before-broken}
 use Rattle.read.proofs.Shorter.{notes-none, notes-line}
 

@@ -1,5 +1,4 @@
 pub mod Forms
-pub mod Reading
 pub mod Lines
 pub mod Small
 pub mod Shorter

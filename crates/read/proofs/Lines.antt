@@ -6,14 +6,14 @@ use native.Mathlib.Omega.{arith}
 use native.Mathlib.Numerals.{add-one}
 use lib.ListN.{length, take, drop, set, getD, drop-of-length-le}
 use lib.Seq.{take-suc-set, take-all}
-use Rattle.read.specs.Read.{Read, got, broken, after}
-use Rattle.read.specs.Answers.{placeIn, numberIn}
-use Rattle.read.specs.declared.number.Place.{Place}
-use Rattle.read.specs.declared.number.Place.the-variants as place
-use Rattle.read.specs.declared.number.Number.{Number}
-use Rattle.read.specs.declared.number.Number.the-variants.{At, Broken}
+use Rattle.digits.specs.Read.{Read, got, broken, after}
+use Rattle.digits.specs.Answers.{placeIn, numberIn}
+use Rattle.digits.specs.declared.Place.{Place}
+use Rattle.digits.specs.declared.Place.the-variants as place
+use Rattle.digits.specs.declared.Number.{Number}
+use Rattle.digits.specs.declared.Number.the-variants.{At, Broken}
 use Rattle.read.specs.Line.{field, fields, before, line, formS, formE, numbersOf, envOf, lineS, lineE}
-use Rattle.read.proofs.Reading.{head}
+use Rattle.digits.proofs.Reading.{head}
 
 pub before-none : (r : Read (List ℕ)) → before [] r ≡ r
 unfolding before

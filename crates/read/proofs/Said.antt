@@ -5,7 +5,7 @@ use mathlib.Core.List.{List}
 use native.Mathlib.Omega.{arith}
 use lib.ListN.{length, take, drop}
 use lib.Seq.{take-at}
-use Rattle.read.specs.Read.{Read, got, broken}
+use Rattle.digits.specs.Read.{Read, got, broken}
 use Rattle.read.specs.Notes.{Stored}
 use Rattle.read.specs.Text.{Text, textOf, scoreOf, parsedOf, NotesIn, Parses}
 use Rattle.read.specs.declared.text.TextScore.{TextScore}

@@ -6,7 +6,7 @@ use mathlib.Core.List.{List, [], _∷_}
 use native.Mathlib.Omega.{arith}
 use lib.ListN.{length, drop, getD, length-drop}
 use lib.Dec.{ltb, leb, eqb}
-use Rattle.read.specs.Read.{Read, got, broken, after, digitOf, byte, hexFrom, digitsFrom, fitting, decimal}
+use Rattle.digits.specs.Read.{Read, got, broken, after, digitOf, byte, hexFrom, digitsFrom, fitting, decimal}
 use Rattle.read.specs.Line.{value, field, fields, before, ending, line}
 use Rattle.read.specs.Notes.{note, notesUpTo, notesOf, orElse, wordsOf, formN, formShort, gain1}
 use Rattle.read.specs.Answers.{noteIn}

@@ -6,13 +6,13 @@ use native.Mathlib.Omega.{arith}
 use borrow.Author.Tests.{ltb-true, leb-true}
 use lib.ListN.{drop}
 use lib.Dec.{ltb, leb, eqb}
-use Rattle.read.specs.Read.{Read, got, broken, digitOf, hexFrom, digitsFrom, fitting, decimal, byte}
+use Rattle.digits.specs.Read.{Read, got, broken, digitOf, hexFrom, digitsFrom, fitting, decimal, byte}
 use Rattle.read.specs.Line.{value, field}
-use Rattle.read.specs.Answers.{numberIn}
-use Rattle.read.specs.declared.number.Number.{Number}
-use Rattle.read.specs.declared.number.Number.the-variants.{At}
+use Rattle.digits.specs.Answers.{numberIn}
+use Rattle.digits.specs.declared.Number.{Number}
+use Rattle.digits.specs.declared.Number.the-variants.{At}
 use Rattle.read.proofs.Forms.{broken-got, picked, either, parted}
-use Rattle.read.proofs.Reading.{hex-room}
+use Rattle.digits.proofs.Reading.{hex-room}
 
 hex-small : (k i v : ℕ) (s : List ℕ) {w : ℕ} {r : List ℕ} → i + k ≤ 16 → v < 2 ^ (4 * i) → hexFrom k v s ≡ got w r → w < 2 ^ (4 * (i + k))
 unfolding hexFrom

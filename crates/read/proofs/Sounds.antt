@@ -12,7 +12,7 @@ use Rattle.dsl.specs.Wave.{waveAt}
 use Rattle.dsl.specs.declared.wave.SeqWave.{SeqWave}
 use Rattle.dsl.specs.declared.wave.SeqWave.the-variants.{Fm, Pluck, Piano, Bass}
 use Rattle.dsl.specs.declared.wave.WaveAt.the-variants.{Wave}
-use Rattle.read.specs.Read.{got, broken}
+use Rattle.digits.specs.Read.{got, broken}
 use Rattle.read.specs.Line.{float, field, ending}
 use Rattle.read.specs.Voice.{fmPlace, pluckPlace, pianoPlace, bassPlace, knobCount, voiceOf, soundOf}
 

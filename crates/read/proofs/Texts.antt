@@ -4,7 +4,7 @@ use mathlib.Core.Path.{_≡_, refl, sym, _∙_}
 use mathlib.Core.List.{List}
 use native.Mathlib.Omega.{arith}
 use Rattle.dsl.specs.declared.knobs.Adsr.{Adsr}
-use Rattle.read.specs.Read.{Read, got, broken, after}
+use Rattle.digits.specs.Read.{Read, got, broken, after}
 use Rattle.read.specs.Line.{lineS, lineG, lineE}
 use Rattle.read.specs.Voice.{lineV}
 use Rattle.read.specs.Notes.{notesOf, countOf, Noted}

@@ -3,7 +3,7 @@ use Prim.Native.Nat.{ℕ, zero, suc}
 use mathlib.Core.Path.{_≡_, refl}
 use mathlib.Core.List.{List, [], _∷_}
 use lib.ListN.{length}
-use Rattle.read.specs.Read.{Read, got, broken}
+use Rattle.digits.specs.Read.{Read, got, broken}
 use Rattle.read.specs.Line.{before, lineS, lineG, lineE}
 use Rattle.read.specs.Voice.{lineV}
 use Rattle.read.specs.Notes.{note, notesUpTo, notesOf}

@@ -3,11 +3,7 @@ use Prim.Native.Nat.{ℕ}
 use mathlib.Core.List.{List, [], _∷_}
 use lib.ListN.{drop}
 use Rattle.dsl.specs.declared.knobs.Adsr.{Adsr}
-use Rattle.read.specs.Read.{Read, got, broken}
-use Rattle.read.specs.declared.number.Place.{Place}
-use Rattle.read.specs.declared.number.Place.the-variants as place
-use Rattle.read.specs.declared.number.Number.{Number}
-use Rattle.read.specs.declared.number.Number.the-variants as number
+use Rattle.digits.specs.Read.{Read, got, broken}
 use Rattle.read.specs.declared.line.Numbers.{Numbers}
 use Rattle.read.specs.declared.line.LineS.{LineS}
 use Rattle.read.specs.declared.line.LineS.the-variants as line-s
@@ -21,15 +17,6 @@ use Rattle.read.specs.declared.sound.LineV.{LineV}
 use Rattle.read.specs.declared.sound.LineV.the-variants as line-v
 use Rattle.read.specs.declared.notes.LineN.{LineN}
 use Rattle.read.specs.declared.notes.LineN.the-variants as line-n
-
--- the value is what was asked for, or stands in a lent slice
-abbrev pub placeIn : {A : Type 0} → List ℕ → A → Place → Read A
-placeIn s v (place.At next) = got v (drop next s)
-placeIn s v place.Broken = broken
-
-abbrev pub numberIn : List ℕ → Number → Read ℕ
-numberIn s (number.At v next) = got v (drop next s)
-numberIn s number.Broken = broken
 
 abbrev pub numbersIn : List ℕ → LineS → Read Numbers
 numbersIn s (line-s.At v next) = got v (drop next s)

@@ -1,4 +1,3 @@
-pub mod Read
 pub mod Line
 pub mod Voice
 pub mod Notes

@@ -6,7 +6,7 @@ use lib.ListN.{getD}
 use lib.Dec.{eqb}
 use lib.Ieee.{Float, binary32, ofBits}
 use Rattle.dsl.specs.declared.knobs.Adsr.{Adsr}
-use Rattle.read.specs.Read.{Read, got, broken, after, tab, newline, byte, hex, decimal}
+use Rattle.digits.specs.Read.{Read, got, broken, after, tab, newline, byte, hex, decimal}
 use Rattle.read.specs.declared.line.Numbers.{Numbers}
 use Rattle.read.specs.declared.line.Opening.{Opening}
 

@@ -2,7 +2,6 @@
 // and the place after it, or that the bytes are not of the form.
 mod line; // line.rt: fields and lines, with S, G and E
 mod notes; // notes.rt: the lines N
-mod number; // number.rt: bytes and numbers
 mod sound; // sound.rt: the line V
 mod text; // text.rt: the whole text
 

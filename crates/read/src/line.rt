@@ -3,12 +3,13 @@ ghost use mathlib.Core.Path.{_≡_};
 ghost use Prim.Native.Nat.{_≤_};
 ghost use lib.ListN.{length, take, drop};
 ghost use Rattle.read.specs.Line.{value, field, fields, ending, line, floatAt, lineS, seedField, drawField, lineG, lineE};
-ghost use Rattle.read.specs.Answers.{placeIn, numberIn, numbersIn, openingIn, envIn};
-use crate::number::Number;
-use crate::number::Place;
-use crate::number::decimal;
-use crate::number::expect;
-use crate::number::hex;
+ghost use Rattle.digits.specs.Answers.{placeIn, numberIn};
+ghost use Rattle.read.specs.Answers.{numbersIn, openingIn, envIn};
+use digits::Number;
+use digits::Place;
+use digits::decimal;
+use digits::expect;
+use digits::hex;
 use dsl::Adsr;
 
 // The kinds of a field: the bits of an f32 in 8 digits, or a decimal number of 32 bits.

@@ -8,7 +8,7 @@ ghost use Rattle.read.specs.Answers.{noteIn};
 use crate::line::FLOAT;
 use crate::line::WORD;
 use crate::line::line;
-use crate::number::Place;
+use digits::Place;
 
 // Step, len, the bits of pitch and gain, and the place after the line.
 pub enum LineN {

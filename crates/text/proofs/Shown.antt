@@ -13,7 +13,7 @@ use Rattle.score.specs.declared.session.Session.{Session}
 use Rattle.tally.specs.Tally.{Call, tally}
 use Rattle.tally.specs.Claim.{none, call, callIn, seenIn}
 use Rattle.tally.proofs.AllCalls.{all-calls}
-use Rattle.read.specs.Read.{got, broken}
+use Rattle.digits.specs.Read.{got, broken}
 use Rattle.read.specs.Notes.{countOf}
 use Rattle.read.specs.Text.{Text, textOf}
 use Rattle.read.specs.declared.text.TextScore.{TextScore}

@@ -9,7 +9,7 @@ use Rattle.note.specs.Answer.{Result, refused, accepted}
 use Rattle.score.specs.Score.{scoreOf}
 use Rattle.score.specs.declared.seq.Seq.{Seq}
 use Rattle.tally.specs.Tally.{Call, Tally, tally}
-use Rattle.read.specs.Read.{Read, got, broken}
+use Rattle.digits.specs.Read.{Read, got, broken}
 use Rattle.read.specs.Text.{Text, textOf}
 use Rattle.read.specs.Notes.{countOf}
 use Rattle.listing.specs.Lines.{listingOf, lineR}

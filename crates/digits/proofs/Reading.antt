@@ -10,7 +10,7 @@ use borrow.Author.Tests.{lt-ltb, le-ltb, le-leb, lt-leb, eq-eqb, ne-eqb}
 use lib.Dec.{ltb}
 use lib.ListN.{length, drop, getD, drop-of-length-le}
 use lib.Seq.{drop-cons}
-use Rattle.read.specs.Read.{Read, got, broken, digitOf, byte, hexFrom, digitsFrom, fitting, decimal}
+use Rattle.digits.specs.Read.{Read, got, broken, digitOf, byte, hexFrom, digitsFrom, fitting, decimal}
 
 pub head : (s : List ℕ) (at : ℕ) → at < length s → drop at s ≡ getD s at 0 ∷ drop (at + 1) s
 head s at h = rw (add-one, drop-cons s at 0)

@@ -1,13 +1,13 @@
--- `read::number::decimal` meets its contract. The loop's invariant: reading on from here gives what reading from the start gives, and v fits. Assumes nothing.
+-- `digits::decimal` meets its contract. The loop's invariant: reading on from here gives what reading from the start gives, and v fits. Assumes nothing.
 use borrow.Author.Needs.{needs}
 use Prim.Native.Nat.{_-_, _≤_}
 use mathlib.Core.Path.{_≡_, _∙_}
 use native.Mathlib.Omega.{arith}
 use lib.ListN.{length, drop}
-use Rattle.read.specs.Read.{decimal, digitsFrom, fitting}
-use Rattle.read.proofs.Reading.{decimal-none, decimal-zero, decimal-bad, decimal-start, digits-end, digits-stop, digits-more, digits-over}
-use Rattle.read.proofs.number.decimal.Statement.{statement}
-use Rattle.read.proofs.number.decimal.Tie as tie
+use Rattle.digits.specs.Read.{decimal, digitsFrom, fitting}
+use Rattle.digits.proofs.Reading.{decimal-none, decimal-zero, decimal-bad, decimal-start, digits-end, digits-stop, digits-more, digits-over}
+use Rattle.digits.proofs.decimal.Statement.{statement}
+use Rattle.digits.proofs.decimal.Tie as tie
 
 abbrev Inv-loop : tie.InvT-loop
 Inv-loop s start most first at₀ v₀ at v = (v ≤ most) × (fitting most (digitsFrom v (drop at s)) ≡ decimal most (drop start s))

@@ -1,9 +1,9 @@
-// Bytes and numbers.
+// Bytes and numbers of a text score, each read at a place.
 ghost use mathlib.Core.Path.{_≡_};
 ghost use Prim.Native.Nat.{_≤_};
 ghost use lib.ListN.{drop};
-ghost use Rattle.read.specs.Read.{digitOf, byte, hex, decimal};
-ghost use Rattle.read.specs.Answers.{placeIn, numberIn};
+ghost use Rattle.digits.specs.Read.{digitOf, byte, hex, decimal};
+ghost use Rattle.digits.specs.Answers.{placeIn, numberIn};
 
 // The place after what was asked for.
 pub enum Place {

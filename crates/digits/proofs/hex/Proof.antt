@@ -1,13 +1,13 @@
--- `read::number::hex` meets its contract. The loop's invariant: reading on from here gives what reading from the start gives, and v has no more than the digits read. Assumes nothing.
+-- `digits::hex` meets its contract. The loop's invariant: reading on from here gives what reading from the start gives, and v has no more than the digits read. Assumes nothing.
 use borrow.Author.Needs.{needs}
 use Prim.Native.Nat.{_*_, _-_, _^_, _≤_, _<_}
 use mathlib.Core.Path.{_≡_, _∙_}
 use native.Mathlib.Omega.{arith}
 use lib.ListN.{drop}
-use Rattle.read.specs.Read.{hexFrom}
-use Rattle.read.proofs.Reading.{hex-none, hex-bad, hex-more, hex-room, hex-all}
-use Rattle.read.proofs.number.hex.Statement.{statement}
-use Rattle.read.proofs.number.hex.Tie as tie
+use Rattle.digits.specs.Read.{hexFrom}
+use Rattle.digits.proofs.Reading.{hex-none, hex-bad, hex-more, hex-room, hex-all}
+use Rattle.digits.proofs.hex.Statement.{statement}
+use Rattle.digits.proofs.hex.Tie as tie
 
 abbrev Inv-loop : tie.InvT-loop
 Inv-loop s start count v₀ at₀ i₀ v at i = (v < 2 ^ (4 * i)) × (i ≤ count) × (hexFrom (count - i) v (drop at s) ≡ hexFrom count 0 (drop start s))

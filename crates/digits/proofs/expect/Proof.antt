@@ -1,8 +1,8 @@
--- `read::number::expect` meets its contract. Assumes nothing.
-use Rattle.read.proofs.Reading.{byte-none, byte-same, byte-other}
+-- `digits::expect` meets its contract. Assumes nothing.
+use Rattle.digits.proofs.Reading.{byte-none, byte-same, byte-other}
 use borrow.Author.Needs.{needs}
-use Rattle.read.proofs.number.expect.Statement.{statement}
-use Rattle.read.proofs.number.expect.Tie as tie
+use Rattle.digits.proofs.expect.Statement.{statement}
+use Rattle.digits.proofs.expect.Tie as tie
 
 shared-slice-read-if2 : tie.Need-shared-slice-read-if2
 shared-slice-read-if2 c = search needs

@@ -1,11 +1,11 @@
--- `read::number::digit` meets its contract. Assumes nothing.
+-- `digits::digit` meets its contract. Assumes nothing.
 use borrow.Author.Tests.{lt-ltb, le-ltb}
 use mathlib.Core.Path.{refl}
 use Rattle.laws.proofs.If.{if-true, if-false}
-use Rattle.read.specs.Read.{digitOf}
+use Rattle.digits.specs.Read.{digitOf}
 use borrow.Author.Needs.{needs}
-use Rattle.read.proofs.number.digit.Statement.{statement}
-use Rattle.read.proofs.number.digit.Tie as tie
+use Rattle.digits.proofs.digit.Statement.{statement}
+use Rattle.digits.proofs.digit.Tie as tie
 
 returns : tie.Need-returns
 unfolding digitOf
