@@ -1,4 +1,4 @@
--- Numbers that only these voices write, each as the f32 pattern of the decimal that stands there.
+-- Numbers that only the piano writes, each as the f32 pattern of the decimal that stands there.
 use lib.Ieee.{Float, binary32, ofBits}
 
 -- 1e-6
@@ -49,26 +49,10 @@ c9 = ofBits binary32 0x41100000
 abbrev pub c55 : Float
 c55 = ofBits binary32 0x425c0000
 
--- 100.0
-abbrev pub c100 : Float
-c100 = ofBits binary32 0x42c80000
-
 -- 110.0
 abbrev pub c110 : Float
 c110 = ofBits binary32 0x42dc0000
 
--- 215.0
-abbrev pub c215 : Float
-c215 = ofBits binary32 0x43570000
-
--- 400.0
-abbrev pub c400 : Float
-c400 = ofBits binary32 0x43c80000
-
 -- std::f32::consts::PI, 3.14159265358979323846264338327950288
 abbrev pub PI : Float
 PI = ofBits binary32 0x40490fdb
-
--- NEG_LN_1000, -6.907_755: a fall by 60 dB
-abbrev pub negLn1000 : Float
-negLn1000 = ofBits binary32 0xc0dd0c54

@@ -26,7 +26,7 @@ use Rattle.sustained.specs.Strings.{stringsFrames}
 use Rattle.sustained.specs.Brass.{brassFrames}
 use Rattle.sustained.specs.Flute.{fluteFrames}
 use Rattle.sustained.proofs.Own.{organSame, stringsSame, brassSame, fluteSame}
-use Rattle.stringed.specs.Pluck.{ringFrames, pluckFrames}
+use Rattle.plucked.specs.Pluck.{ringFrames, pluckFrames}
 use Rattle.stringed.specs.Piano.{soundFrames, pianoFrames}
 use Rattle.stringed.proofs.Pianos.{piano-same}
 use Rattle.groove.specs.Period.{periodOf}

@@ -18,7 +18,7 @@ use Rattle.sustained.specs.Organ.{organFrames}
 use Rattle.sustained.specs.Strings.{stringsFrames}
 use Rattle.sustained.specs.Brass.{brassFrames}
 use Rattle.sustained.specs.Flute.{fluteFrames}
-use Rattle.stringed.specs.Pluck.{pluckFrames}
+use Rattle.plucked.specs.Pluck.{pluckFrames}
 use Rattle.stringed.specs.Piano.{pianoFrames}
 use Rattle.groove.specs.Period.{periodOf}
 use Rattle.voice.specs.declared.note.SeqVoice.{SeqVoice}

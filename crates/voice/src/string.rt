@@ -6,7 +6,7 @@ ghost use Rattle.ieee.specs.Numbers.{f32};
 ghost use Rattle.dsl.specs.Domain.{Rate};
 ghost use Rattle.dsp.specs.SplitMix64.{stateAfter};
 ghost use Rattle.groove.specs.Period.{periodOf};
-ghost use Rattle.stringed.specs.Pluck.{pluckFrames};
+ghost use Rattle.plucked.specs.Pluck.{pluckFrames};
 use dsl::PluckKnobs;
 use dsp::Rng;
 
@@ -28,5 +28,5 @@ pub fn pluck_string(
 {
     let period = groove::string_period(rate, first);
     let srf = std::num::nearest_u32_to_f32(rate);
-    stringed::pluck_note(knobs, srf, period, rng, string, out)
+    plucked::pluck_note(knobs, srf, period, rng, string, out)
 }

@@ -1,0 +1,3 @@
+pub mod Noise
+pub mod Rings
+pub mod Lent

@@ -1,0 +1,4 @@
+pub mod Constants
+pub mod Noise
+pub mod Guitar
+pub mod Pluck
