@@ -30,6 +30,7 @@ mod text_cases;
 mod text_damage;
 mod text_random;
 mod text_reference;
+mod text_stream;
 mod texts;
 mod tried;
 mod vectors;
@@ -55,6 +56,7 @@ const USAGE: &str =
        compare notes [COUNT]     COUNT note calls of every outcome, 10^6 by default
        compare scores [COUNT]    COUNT score calls in lists, 10^6 by default
        compare texts [COUNT]     COUNT text scores and damaged ones, 10^6 by default
+       compare cases FIRST COUNT damaged text scores with their answers, for robust/host.c
        compare listing           the listing that 01 asks of the text score on standard input
        compare voice-bench       nanoseconds a sample of each wave, library and original
        compare groove-vectors    writes the replay files of crates/groove_vectors
@@ -82,6 +84,7 @@ fn main() -> ExitCode {
         ["scores", count] => counted(count, score_calls::run),
         ["texts"] => status(texts::run(texts::COUNT)),
         ["texts", count] => counted(count, texts::run),
+        ["cases", first, count] => streamed(first, count),
         ["listing"] => written(listing()),
         ["voice-bench"] => done(voice_bench::run()),
         ["libm"] => done(libm::run(1)),
@@ -107,6 +110,13 @@ fn counted(count: &str, run: impl Fn(u64) -> u64) -> ExitCode {
 fn scaled(scale: &str, run: impl Fn(u64) -> ExitCode) -> ExitCode {
     match scale.parse() {
         Ok(scale) if scale > 0 => run(scale),
+        _ => usage(),
+    }
+}
+
+fn streamed(first: &str, count: &str) -> ExitCode {
+    match (first.parse(), count.parse()) {
+        (Ok(first), Ok(count)) => written(text_stream::run(first, count)),
         _ => usage(),
     }
 }

@@ -61,7 +61,7 @@ fn with(change: impl FnOnce(&mut Text)) -> Vec<u8> {
     text.bytes()
 }
 
-/// Which line of the base each letter is first at, and the name of a field: its letter and number.
+/// Of the first five lines of the base. A field is named by its line's letter and its number.
 const LETTERS: [&str; 5] = ["S", "G", "E", "V", "N"];
 
 fn place(line: usize, field: usize) -> String {
