@@ -37,14 +37,24 @@ impl Replay {
         self.stdout.extend(answer.bytes());
         if command == "show" {
             self.stdout.extend(reply);
+            self.stdout.push(b'\n');
         }
         self.cases += 1;
     }
 
-    /// With a reply that is longer than the listing by a few bytes, and ends in one of them.
+    /// With a reply that is longer than the listing by a few bytes.
     fn longer(&mut self, command: &str, case: &Case) {
         let length = listing(&case.text).bytes.len();
         self.put(command, case, length + 5);
+    }
+
+    /// Refusals are shown, so that each can be read.
+    fn other(&mut self, case: &Case) {
+        let command = match listing(&case.text).number {
+            0 => "text",
+            _ => "show",
+        };
+        self.longer(command, case);
     }
 
     /// With replies that the listing just fits, and just doesn't.
@@ -65,7 +75,7 @@ pub fn run() -> io::Result<()> {
         replay.replies(case);
     }
     for case in others() {
-        replay.longer("text", &case);
+        replay.other(&case);
     }
     let folder = Path::new(FOLDER);
     fs::create_dir_all(folder)?;

@@ -2,7 +2,7 @@
 //   text LENGTH REPLY NAME
 // and then the text score's bytes, as many as LENGTH says; the reply has REPLY bytes, each a point
 // before the call. The line is written again, with the call's answer and a hash of the whole reply.
-// After a line that starts with `show` the reply follows.
+// After a line that starts with `show` the reply follows, and a newline.
 ghost use Prim.Native.Nat.{_≤_, _<_};
 ghost use lib.ListN.{length};
 use libc::STDIN_FILENO;
@@ -44,6 +44,7 @@ fn call(line: &[u8], text: &[u8], reply: &mut [u8]) {
     vectors::print_text(b"\n");
     if vectors::is_named(line, b"show") {
         vectors::print_text(reply);
+        vectors::print_text(b"\n");
     }
 }
 
