@@ -1,4 +1,4 @@
-// Links the proved library, which `rt staticlib harness` writes, and takes the lines of the original
+// Links the proved libraries, which `rt staticlib` writes, and takes the lines of the original
 // that no function of its own gives, by their text and unchanged. Where one is not found the build
 // stops. The original's files themselves are the crate `tono`, in original/.
 use std::env;
@@ -11,7 +11,8 @@ const DEFAULT_SOURCE: &str = "../../shared/docs/src";
 fn main() {
     let own = env::var("CARGO_MANIFEST_DIR").expect("cargo sets CARGO_MANIFEST_DIR");
     let own = Path::new(&own);
-    link_harness(own);
+    link(own, "harness");
+    link(own, "tono");
     println!("cargo:rerun-if-env-changed=TONO_SRC");
     let source = match env::var_os("TONO_SRC") {
         Some(folder) => PathBuf::from(folder),
@@ -33,17 +34,17 @@ fn read(file: &Path) -> String {
     }
 }
 
-fn link_harness(own: &Path) {
+fn link(own: &Path, name: &str) {
     let folder = own.join("../target/staticlib");
-    let archive = folder.join("libharness.a");
+    let archive = folder.join(format!("lib{name}.a"));
     if !archive.exists() {
         println!(
-            "cargo:warning=no {}: run `rt staticlib harness` first",
+            "cargo:warning=no {}: run `rt staticlib {name}` first",
             archive.display()
         );
     }
     println!("cargo:rustc-link-search=native={}", folder.display());
-    println!("cargo:rustc-link-lib=static=harness");
+    println!("cargo:rustc-link-lib=static={name}");
     println!("cargo:rerun-if-changed={}", archive.display());
 }
 

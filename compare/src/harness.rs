@@ -1,4 +1,4 @@
-//! The functions of libharness.a. Each is proved to have a result for every argument and to touch
+//! The functions of libharness.a and libtono.a. Each is proved to have a result for every argument and to touch
 //! no memory but its own, so a call is safe.
 
 unsafe extern "C" {
@@ -33,6 +33,12 @@ unsafe extern "C" {
 
 mod raw {
     unsafe extern "C" {
+        pub fn tono_play(
+            score: *const u8,
+            score_len: usize,
+            reply: *mut u8,
+            reply_len: usize,
+        ) -> i64;
         pub fn h_note(
             rate: u32,
             wave: u32,
@@ -169,4 +175,10 @@ pub fn h_score(args: ScoreArgs) -> u32 {
             args.string.len(),
         )
     }
+}
+
+/// The C call: the listing's length, or -23 where it is longer than the reply.
+pub fn tono_play(score: &[u8], reply: &mut [u8]) -> i64 {
+    // As above.
+    unsafe { raw::tono_play(score.as_ptr(), score.len(), reply.as_mut_ptr(), reply.len()) }
 }

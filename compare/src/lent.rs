@@ -5,7 +5,7 @@ use crate::engine::same_values;
 /// How many values stand on each side.
 const MARGIN: usize = 8;
 
-/// A value of 32 bits.
+/// A value of at most 32 bits.
 pub trait Word: Copy {
     fn from_pattern(pattern: u32) -> Self;
     fn pattern(self) -> u32;
@@ -26,6 +26,15 @@ impl Word for u32 {
     }
     fn pattern(self) -> u32 {
         self
+    }
+}
+
+impl Word for u8 {
+    fn from_pattern(pattern: u32) -> u8 {
+        pattern as u8
+    }
+    fn pattern(self) -> u32 {
+        self as u32
     }
 }
 

@@ -18,12 +18,20 @@ mod long_scores;
 mod note_calls;
 mod random;
 mod reference;
+mod replay_vectors;
 mod score;
 mod score_calls;
 mod score_cases;
 mod score_kinds;
 mod score_random;
 mod score_vectors;
+mod text;
+mod text_cases;
+mod text_damage;
+mod text_random;
+mod text_reference;
+mod text_stream;
+mod texts;
 mod tried;
 mod vectors;
 mod voice_bench;
@@ -32,6 +40,7 @@ mod voices;
 mod waves;
 
 use std::env;
+use std::io::{self, Read, Write};
 use std::process::ExitCode;
 
 const USAGE: &str =
@@ -46,10 +55,14 @@ const USAGE: &str =
        compare voices [COUNT]    COUNT notes of each wave, 10^5 by default
        compare notes [COUNT]     COUNT note calls of every outcome, 10^6 by default
        compare scores [COUNT]    COUNT score calls in lists, 10^6 by default
+       compare texts [COUNT]     COUNT text scores and damaged ones, 10^6 by default
+       compare cases FIRST COUNT damaged text scores with their answers, for robust/host.c
+       compare listing           the listing that 01 asks of the text score on standard input
        compare voice-bench       nanoseconds a sample of each wave, library and original
        compare groove-vectors    writes the replay files of crates/groove_vectors
        compare voice-vectors     writes the replay files of crates/voice_vectors
-       compare score-vectors     writes the replay files of crates/score_vectors";
+       compare score-vectors     writes the replay files of crates/score_vectors
+       compare replay-vectors    writes the replay files of crates/replay";
 
 fn main() -> ExitCode {
     let words: Vec<String> = env::args().skip(1).collect();
@@ -69,12 +82,17 @@ fn main() -> ExitCode {
         ["notes", count] => counted(count, note_calls::run),
         ["scores"] => status(score_calls::run(score_calls::COUNT)),
         ["scores", count] => counted(count, score_calls::run),
+        ["texts"] => status(texts::run(texts::COUNT)),
+        ["texts", count] => counted(count, texts::run),
+        ["cases", first, count] => streamed(first, count),
+        ["listing"] => written(listing()),
         ["voice-bench"] => done(voice_bench::run()),
         ["libm"] => done(libm::run(1)),
         ["libm", scale] => scaled(scale, |scale| done(libm::run(scale))),
         ["kernel-vectors"] => written(kernel_vectors::run()),
         ["voice-vectors"] => written(voice_vectors::run()),
         ["score-vectors"] => written(score_vectors::run()),
+        ["replay-vectors"] => written(replay_vectors::run()),
         ["groove-vectors"] => written(groove_vectors::run()),
         _ => usage(),
     }
@@ -96,6 +114,20 @@ fn scaled(scale: &str, run: impl Fn(u64) -> ExitCode) -> ExitCode {
     }
 }
 
+fn streamed(first: &str, count: &str) -> ExitCode {
+    match (first.parse(), count.parse()) {
+        (Ok(first), Ok(count)) => written(text_stream::run(first, count)),
+        _ => usage(),
+    }
+}
+
+/// By the reference alone; the library has no part in it.
+fn listing() -> io::Result<()> {
+    let mut text = Vec::new();
+    io::stdin().read_to_end(&mut text)?;
+    io::stdout().write_all(&text_reference::listing(&text).bytes)
+}
+
 fn done(_: ()) -> ExitCode {
     ExitCode::SUCCESS
 }
@@ -108,7 +140,7 @@ fn status(differ: u64) -> ExitCode {
     }
 }
 
-fn written(done: std::io::Result<()>) -> ExitCode {
+fn written(done: io::Result<()>) -> ExitCode {
     match done {
         Ok(()) => ExitCode::SUCCESS,
         Err(error) => {

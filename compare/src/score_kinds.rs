@@ -2,6 +2,7 @@
 
 use crate::reference::all_sized;
 use crate::score::Score;
+use crate::waves::own_knobs;
 use std::ops::Range;
 
 /// What it is, and whether a score is of that kind.
@@ -21,17 +22,6 @@ impl Sounded<'_> {
 
     fn gain(&self) -> f32 {
         f32::from_bits(self.words[4])
-    }
-}
-
-/// Which knobs a wave reads.
-fn own_knobs(wave: u32) -> Range<usize> {
-    match wave {
-        5 => 0..3,
-        6 => 3..7,
-        7 => 7..12,
-        15 => 12..22,
-        _ => 0..0,
     }
 }
 

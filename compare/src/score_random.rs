@@ -2,6 +2,7 @@
 
 use crate::random::Source;
 use crate::score::Score;
+use crate::score_cases::note;
 use crate::waves::WAVES;
 
 /// The next number above 1.
@@ -31,7 +32,7 @@ impl Score {
     }
 
     /// With no notes yet, and as many frames as a few steps, where they are not too many.
-    fn played(s: &mut Source) -> Score {
+    pub fn played(s: &mut Source) -> Score {
         let rate = s.rate();
         let tempo = match s.below(4) {
             0 => s.between(1.0, 1000.0),
@@ -70,14 +71,19 @@ impl Score {
         }
     }
 
-    /// Mostly at a step that starts within the frames or just after them, often at one that has a note.
-    fn add_note(&mut self, s: &mut Source) {
+    /// Step and len of a note: mostly at a step that starts within the frames or just after them, often
+    /// at one that has a note.
+    fn span(&self, s: &mut Source) -> [u32; 2] {
         let within = self.out as f32 / self.call().samples_per_step();
         let step = match s.below(5) {
             0 if !self.words.is_empty() => self.words[self.words.len() - 5],
             _ => steps(s, within as u64 + 2),
         };
-        let len = steps(s, 6);
+        [step, steps(s, 6)]
+    }
+
+    fn add_note(&mut self, s: &mut Source) {
+        let [step, len] = self.span(s);
         let fits = self.call().length(len) <= self.lane.len();
         let curve = s.below(if fits { 2 } else { 40 }) == 0;
         let pitch = match curve {
@@ -86,6 +92,13 @@ impl Score {
         };
         let gain = s.sized(0.0, 1.0).to_bits();
         self.words.extend([step, len, curve as u32, pitch, gain]);
+    }
+
+    /// A note whose pitch is a number.
+    pub fn add_number(&mut self, s: &mut Source) {
+        let [step, len] = self.span(s);
+        let (pitch, gain) = (s.sized(20.0, 5000.0), s.sized(0.0, 1.0));
+        self.words.extend(note(step, len, pitch, gain));
     }
 
     /// Where a curve starts: mostly so that it fits its lane, and often so that it just does or just

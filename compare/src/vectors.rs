@@ -68,12 +68,21 @@ fn around(centres: &[&[u64]], sign: u64) -> Vec<u64> {
     patterns
 }
 
-/// A pattern as the replay prints it, one for every NaN. The test is on the bits: after `sqrt`,
-/// rustc 1.95 at -O3 drops a test by `is_nan` that only picks the pattern.
-fn single(x: f32) -> String {
+/// The bits of x, one pattern for every NaN. The test is on the bits: after `sqrt`, rustc 1.95 at -O3
+/// drops a test by `is_nan` that only picks the pattern.
+pub fn pattern(x: f32) -> u32 {
     let bits = x.to_bits();
     let is_nan = bits & 0x7fff_ffff > 0x7f80_0000;
-    format!("{:08x}", if is_nan { 0x7fc0_0000 } else { bits })
+    if is_nan {
+        0x7fc0_0000
+    } else {
+        bits
+    }
+}
+
+/// A float as the replay prints it.
+fn single(x: f32) -> String {
+    format!("{:08x}", pattern(x))
 }
 
 fn double(x: f64) -> String {

@@ -1,6 +1,7 @@
 //! The replay files of crates/voice_vectors: notes of every wave, with the original's samples.
 
 use crate::random::{draw, draw_at, state_at};
+use crate::vectors::pattern;
 use crate::voices::Note;
 use crate::waves::WAVES;
 use std::fs;
@@ -79,11 +80,9 @@ pub fn hex(values: &[f32]) -> String {
         .collect()
 }
 
-/// A sample as the replay prints it, one for every NaN; the test is on the bits.
+/// A sample as the replay prints it.
 pub fn sample(x: f32) -> String {
-    let bits = x.to_bits();
-    let is_nan = bits & 0x7fff_ffff > 0x7f80_0000;
-    format!(" {:08x}", if is_nan { 0x7fc0_0000 } else { bits })
+    format!(" {:08x}", pattern(x))
 }
 
 fn prolonged(values: &[f32], n: usize) -> Vec<f32> {

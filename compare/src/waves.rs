@@ -1,5 +1,6 @@
 //! The waves by their places, and a voice of the original's from 22 knobs.
 
+use std::ops::Range;
 use tono::dsl::{Adsr, BassKnobs, FmKnobs, PianoKnobs, PluckKnobs, SeqWave};
 use tono::render::seq::shim::Voice;
 
@@ -28,6 +29,17 @@ pub const WAVES: [(u32, &str, SeqWave); 17] = [
 pub fn wave_at(place: u32) -> Option<SeqWave> {
     let found = WAVES.iter().find(|w| w.0 == place);
     found.map(|w| w.2)
+}
+
+/// Which of the 22 knobs a wave reads.
+pub fn own_knobs(wave: u32) -> Range<usize> {
+    match wave {
+        5 => 0..3,
+        6 => 3..7,
+        7 => 7..12,
+        15 => 12..22,
+        _ => 0..0,
+    }
 }
 
 /// A voice for a note alone: knobs in node.rs's order, fm, pluck, piano, bass.
