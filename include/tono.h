@@ -43,7 +43,8 @@ extern "C" {
  * threads at once, each with buffers of its own, do not disturb each other. It allocates nothing, makes
  * no system call and always returns.
  *
- * It needs @STACK@ bytes of stack. Threads with a small stack have to be given as much. */
+ * It takes up to 96,824 bytes of stack, measured on every wave (compare/robust/stack.c); give a thread
+ * that calls it 128 KiB or more beyond its own needs. */
 int64_t tono_play(const uint8_t *score, size_t score_len, uint8_t *reply, size_t reply_len);
 
 #ifdef __cplusplus
