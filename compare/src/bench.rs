@@ -1,96 +1,174 @@
-//! Nanoseconds a call, through the library and by Rust's own operation.
+//! Nanoseconds a sample of each wave as a note call, as a score of one note and as a chord of 16,
+//! library and original.
 
-use crate::harness::*;
-use crate::random::{draw, unit};
+use crate::harness::{h_note, h_score, NoteArgs, ScoreArgs};
+use crate::voice_vectors::USUAL;
+use crate::waves::{envelope, voice_of, WAVES};
 use std::hint::black_box;
 use std::time::Instant;
+use tono::dsl::{SeqNote, SeqWave, Value};
+use tono::dsp::Rng;
+use tono::render::seq::shim::{note_signal, render, Voice};
 
-/// How many arguments there are: few enough to stay in the cache.
-const ARGUMENTS: usize = 4096;
-/// How many times the arguments are gone through in a round.
-const PASSES: usize = 200;
-/// How many rounds of each side, of which the fastest counts.
-const ROUNDS: usize = 25;
+/// One second.
+const RATE: u32 = 48_000;
+const FRAMES: usize = 48_000;
+/// Attack, decay, sustain, release and punch of the scores.
+const ENVELOPE: [f32; 5] = [0.01, 0.1, 0.7, 0.2, 0.2];
+/// A step of a second.
+const TEMPO: f32 = 60.0;
+const GAIN: f32 = 0.8;
+/// Rounds of each side in turn, of which the fastest counts.
+const ROUNDS: usize = 9;
 
-/// Rust's own operations behind a call, since the library's are behind one.
-mod plain {
-    use super::draw;
+/// What both sides are handed, and the buffers that the library is lent.
+struct Bench {
+    pitch: Vec<f32>,
+    duty: Vec<f32>,
+    out: Vec<f32>,
+    note_buf: Vec<f32>,
+    string: Vec<f32>,
+}
 
-    macro_rules! plain {
-        ($($name:ident($x:ident: $from:ty) -> $to:ty $body:block)*) => {
-            $(#[inline(never)]
-            pub extern "C" fn $name($x: $from) -> $to $body)*
-        };
-    }
-
-    plain! {
-        narrow(x: f64) -> f32 { x as f32 }
-        floor(x: f32) -> f32 { x.floor() }
-        trunc(x: f32) -> f32 { x.trunc() }
-        round(x: f32) -> f32 { x.round() }
-        floor64(x: f64) -> f64 { x.floor() }
-        trunc64(x: f64) -> f64 { x.trunc() }
-        round64(x: f64) -> f64 { x.round() }
-        sqrt(x: f32) -> f32 { x.sqrt() }
-        to_i64(x: f64) -> i64 { x as i64 }
-        to_usize(x: f32) -> usize { x as usize }
-        next(state: u64) -> u64 { draw(state) }
-        bi(state: u64) -> f32 { (draw(state) >> 40) as f32 / 16777216.0 * 2.0 - 1.0 }
+/// The pitches of a chord: harmonics of 55 hertz.
+fn pitches(notes: usize) -> Vec<f32> {
+    match notes {
+        1 => vec![440.0],
+        _ => (1..=notes).map(|k| 55.0 * k as f32).collect(),
     }
 }
 
-/// The time of one round, in nanoseconds a call.
-fn round<X: Copy, A>(arguments: &[X], call: impl Fn(X) -> A) -> f64 {
-    let begun = Instant::now();
-    for _ in 0..PASSES {
-        for &x in black_box(arguments) {
-            black_box(call(x));
+impl Bench {
+    fn new() -> Bench {
+        Bench {
+            pitch: vec![440.0; FRAMES],
+            duty: vec![0.5; FRAMES],
+            out: vec![0.0; FRAMES],
+            note_buf: vec![0.0; FRAMES],
+            string: vec![0.0; 9600],
         }
     }
-    begun.elapsed().as_nanos() as f64 / (PASSES * arguments.len()) as f64
-}
 
-/// Times both sides in turn, and prints the best round of each.
-fn row<X: Copy, A>(name: &str, arguments: &[X], library: impl Fn(X) -> A, rust: impl Fn(X) -> A) {
-    let (mut ours, mut theirs) = (f64::INFINITY, f64::INFINITY);
-    for _ in 0..ROUNDS {
-        ours = ours.min(round(arguments, &library));
-        theirs = theirs.min(round(arguments, &rust));
+    fn our_note(&mut self, wave: u32) -> u32 {
+        h_note(NoteArgs {
+            rate: RATE,
+            wave,
+            knobs: &USUAL,
+            gain: GAIN,
+            state: &mut 1,
+            draws: &mut 0,
+            pitch: &self.pitch,
+            duty: &self.duty,
+            out: &mut self.out,
+            string: &mut self.string,
+        })
     }
-    let ratio = ours / theirs;
-    println!("{name:8} {ours:8.2} {theirs:8.2} {ratio:6.2}");
+
+    fn our_score(&mut self, wave: u32, words: &[u32]) -> u32 {
+        h_score(ScoreArgs {
+            state: &mut 1,
+            draw: &mut 0,
+            draws: &mut 0,
+            rate: RATE,
+            tempo: TEMPO,
+            steps_per_beat: 1,
+            swing: 0.0,
+            humanize: 0.0,
+            wave,
+            duty: 0.5,
+            knobs: &USUAL,
+            env: &ENVELOPE,
+            notes: words,
+            lane: &[],
+            out: &mut self.out,
+            note_buf: &mut self.note_buf,
+            string: &mut self.string,
+        })
+    }
+
+    fn their_note(&self, wave: SeqWave) -> Vec<f32> {
+        let voice = voice_of(wave, &USUAL);
+        let mut rng = Rng::new(1);
+        note_signal(&voice, GAIN, &self.pitch, &self.duty, RATE, &mut rng)
+    }
 }
 
-/// Arguments from `low` up to but not at `high`.
-fn spread(low: f64, high: f64) -> Vec<f64> {
-    (0..ARGUMENTS as u64)
-        .map(|i| low + (high - low) * unit(1, i))
-        .collect()
+fn their_score(wave: SeqWave, notes: &[SeqNote]) -> Vec<f32> {
+    let voice = Voice {
+        duty: 0.5,
+        env: envelope(ENVELOPE),
+        ..voice_of(wave, &USUAL)
+    };
+    render(&voice, TEMPO, 1, notes, FRAMES, RATE, &mut Rng::new(1))
 }
 
-fn spread_f32(low: f64, high: f64) -> Vec<f32> {
-    spread(low, high).into_iter().map(|x| x as f32).collect()
+/// The fastest round of each side, in nanoseconds a sample of a note.
+fn fastest<A, B>(
+    samples: usize,
+    mut ours: impl FnMut() -> A,
+    mut theirs: impl FnMut() -> B,
+) -> [f64; 2] {
+    let mut best = [f64::INFINITY; 2];
+    for _ in 0..ROUNDS {
+        let begun = Instant::now();
+        black_box(ours());
+        best[0] = best[0].min(begun.elapsed().as_nanos() as f64);
+        let begun = Instant::now();
+        black_box(theirs());
+        best[1] = best[1].min(begun.elapsed().as_nanos() as f64);
+    }
+    best.map(|time| time / samples as f64)
+}
+
+/// A note of each pitch from the first step on: the library's words, and the original's notes.
+fn chord(notes: usize) -> (Vec<u32>, Vec<SeqNote>) {
+    let words = |p: &f32| [0, 1, 0, p.to_bits(), GAIN.to_bits()];
+    let note = |p: &f32| SeqNote {
+        step: 0,
+        len: 1,
+        pitch: Value::Const(*p),
+        gain: GAIN,
+    };
+    let pitches = pitches(notes);
+    (
+        pitches.iter().flat_map(words).collect(),
+        pitches.iter().map(note).collect(),
+    )
+}
+
+fn row(bench: &mut Bench, place: u32, name: &str, wave: SeqWave) -> [f64; 3] {
+    let shared = Bench::new();
+    let note = fastest(FRAMES, || bench.our_note(place), || shared.their_note(wave));
+    let [one, many] = [1, 16].map(|count| {
+        let (words, notes) = chord(count);
+        fastest(
+            FRAMES * count,
+            || bench.our_score(place, &words),
+            || their_score(wave, &notes),
+        )
+    });
+    print!("{name:9}");
+    for [ours, theirs] in [note, one, many] {
+        print!(" {ours:8.2} {theirs:8.2} {:5.2}", ours / theirs);
+    }
+    println!();
+    [note, one, many].map(|[ours, theirs]| ours / theirs)
 }
 
 pub fn run() {
-    println!("Nanoseconds a call. Both sides are called through a C function that is not inlined.");
-    println!("{:8} {:>8} {:>8} {:>6}", "", "library", "Rust", "ratio");
-    let samples = spread(-1.0, 1.0);
-    row("narrow", &samples, |x| h_narrow(x), |x| plain::narrow(x));
-    let phases = spread_f32(0.0, 4.0);
-    row("floor", &phases, |x| h_floor(x), |x| plain::floor(x));
-    row("trunc", &phases, |x| h_trunc(x), |x| plain::trunc(x));
-    let periods = spread_f32(2.0, 9600.0);
-    row("round", &periods, |x| h_round(x), |x| plain::round(x));
-    let turns = spread(-1000.0, 1000.0);
-    row("floor64", &turns, |x| h_floor64(x), |x| plain::floor64(x));
-    row("trunc64", &turns, |x| h_trunc64(x), |x| plain::trunc64(x));
-    row("round64", &turns, |x| h_round64(x), |x| plain::round64(x));
-    row("sqrt", &phases, |x| h_sqrt(x), |x| plain::sqrt(x));
-    row("i64", &turns, |x| h_i64(x), |x| plain::to_i64(x));
-    let frames = spread_f32(0.0, 200_000.0);
-    row("usize", &frames, |x| h_usize(x), |x| plain::to_usize(x));
-    let states: Vec<u64> = (0..ARGUMENTS as u64).map(draw).collect();
-    row("draw", &states, |s| h_draw(s), |s| plain::next(s));
-    row("bi", &states, |s| h_bi(s), |s| plain::bi(s));
+    println!("Nanoseconds a sample of a note; {FRAMES} frames at {RATE}. library, original, ratio");
+    println!(
+        "{:9} {:^23} {:^23} {:^23}",
+        "", "note call", "score of one note", "chord of 16"
+    );
+    let mut bench = Bench::new();
+    let mut logs = [0.0; 3];
+    for (place, name, wave) in WAVES {
+        let ratios = row(&mut bench, place, name, wave);
+        for (log, ratio) in logs.iter_mut().zip(ratios) {
+            *log += ratio.ln();
+        }
+    }
+    let [note, one, many] = logs.map(|log| (log / WAVES.len() as f64).exp());
+    println!("geometric means of the ratios: {note:.2}, {one:.2}, {many:.2}");
 }

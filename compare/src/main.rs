@@ -8,6 +8,7 @@ mod engine;
 mod groove_cases;
 mod groove_vectors;
 mod harness;
+mod helper_bench;
 mod helpers;
 mod kernel_bench;
 mod kernel_vectors;
@@ -34,7 +35,6 @@ mod text_stream;
 mod texts;
 mod tried;
 mod vectors;
-mod voice_bench;
 mod voice_vectors;
 mod voices;
 mod waves;
@@ -45,7 +45,8 @@ use std::process::ExitCode;
 
 const USAGE: &str =
     "usage: compare helpers [SCALE]   every f32 and 10^9 f64 patterns; one in SCALE of them
-       compare bench             nanoseconds a call, library and Rust
+       compare bench             nanoseconds a sample of each wave by note and by score, library and original
+       compare helper-bench      nanoseconds a call of the float helpers, library and Rust
        compare vectors           writes the replay files of crates/float_vectors
        compare kernels [COUNT]   COUNT arguments of each kernel, 10^8 by default
        compare kernels all       the same, and all f32 patterns of sinf and expf
@@ -58,7 +59,6 @@ const USAGE: &str =
        compare texts [COUNT]     COUNT text scores and damaged ones, 10^6 by default
        compare cases FIRST COUNT damaged text scores with their answers, for robust/host.c
        compare listing           the listing that 01 asks of the text score on standard input
-       compare voice-bench       nanoseconds a sample of each wave, library and original
        compare groove-vectors    writes the replay files of crates/groove_vectors
        compare voice-vectors     writes the replay files of crates/voice_vectors
        compare score-vectors     writes the replay files of crates/score_vectors
@@ -71,6 +71,7 @@ fn main() -> ExitCode {
         ["helpers"] => status(helpers::run(1)),
         ["helpers", scale] => scaled(scale, |scale| status(helpers::run(scale))),
         ["bench"] => done(bench::run()),
+        ["helper-bench"] => done(helper_bench::run()),
         ["vectors"] => written(vectors::run()),
         ["kernels"] => status(kernels::run(kernels::COUNT)),
         ["kernels", "all"] => status(kernels::run_all()),
@@ -86,7 +87,6 @@ fn main() -> ExitCode {
         ["texts", count] => counted(count, texts::run),
         ["cases", first, count] => streamed(first, count),
         ["listing"] => written(listing()),
-        ["voice-bench"] => done(voice_bench::run()),
         ["libm"] => done(libm::run(1)),
         ["libm", scale] => scaled(scale, |scale| done(libm::run(scale))),
         ["kernel-vectors"] => written(kernel_vectors::run()),
