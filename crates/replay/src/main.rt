@@ -29,13 +29,6 @@ fn hash(bytes: &[u8]) -> u64 {
     h
 }
 
-// The smaller of the two.
-fn least(a: usize, b: usize) -> usize
-    ensures { λ r. ⌜ (r ≤ a) × (r ≤ b) ⌝ }
-{
-    if a < b { a } else { b }
-}
-
 fn call(line: &[u8], text: &[u8], reply: &mut [u8]) {
     let answer = tono::tono_play(text, reply);
     vectors::print_text(line);
@@ -49,7 +42,7 @@ fn call(line: &[u8], text: &[u8], reply: &mut [u8]) {
 }
 
 fn replay_case(line: &[u8], text: &[u8]) {
-    let n = least(vectors::u64_field(line, 2) as usize, MOST_REPLY);
+    let n = vectors::length_field(line, 2, MOST_REPLY);
     let mut space = [b'.'; 33024];
     call(line, text, &mut space[..n]);
 }
@@ -65,7 +58,7 @@ fn replay_from(input: &[u8], at: usize) -> usize
     }
     let start = end + 1;
     let line = &input[at..end];
-    let length = least(vectors::u64_field(line, 1) as usize, input.len() - start);
+    let length = vectors::length_field(line, 1, input.len() - start);
     let stop = start + length;
     replay_case(line, &input[start..stop]);
     stop

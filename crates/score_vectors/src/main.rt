@@ -16,14 +16,6 @@ struct Session {
     draw: u64,
 }
 
-// The number in field k, at most `most`.
-fn length_field(line: &[u8], k: usize, most: usize) -> usize
-    ensures { λ r. ⌜ r ≤ most ⌝ }
-{
-    let n = vectors::u64_field(line, k) as usize;
-    if n < most { n } else { most }
-}
-
 // The low half of the number in field k.
 fn u32_field(line: &[u8], k: usize) -> u32 {
     (vectors::u64_field(line, k) % 0x1_0000_0000) as u32
@@ -81,9 +73,9 @@ fn call(
     notes: &[u32],
     lane: &[f32],
 ) -> Session {
-    let n = length_field(line, 8, 64);
-    let note_len = length_field(line, 9, 80);
-    let string_len = length_field(line, 10, 9616);
+    let n = vectors::length_field(line, 8, 64);
+    let note_len = vectors::length_field(line, 9, 80);
+    let string_len = vectors::length_field(line, 10, 9616);
     let mut state = session.state;
     let mut draw = session.draw;
     let mut draws = 0x5555u64;
@@ -116,10 +108,10 @@ fn call(
 }
 
 fn score(line: &[u8], session: Session) -> Session {
-    let knob_count = length_field(line, 11, MOST);
-    let env_count = length_field(line, 12, MOST);
-    let word_count = length_field(line, 13, MOST);
-    let lane_count = length_field(line, 14, MOST);
+    let knob_count = vectors::length_field(line, 11, MOST);
+    let env_count = vectors::length_field(line, 12, MOST);
+    let word_count = vectors::length_field(line, 13, MOST);
+    let lane_count = vectors::length_field(line, 14, MOST);
     let env_at = 15 + knob_count;
     let words_at = env_at + env_count;
     let lane_at = words_at + word_count;

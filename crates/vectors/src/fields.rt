@@ -76,3 +76,11 @@ fn hex(s: &[u8]) -> u64 {
 pub fn u64_field(line: &[u8], k: usize) -> u64 {
     hex(field(line, k))
 }
+
+// The number in field k, at most `most`.
+pub fn length_field(line: &[u8], k: usize, most: usize) -> usize
+    ensures { λ r. ⌜ r ≤ most ⌝ }
+{
+    let n = u64_field(line, k) as usize;
+    if n < most { n } else { most }
+}

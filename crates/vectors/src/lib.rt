@@ -7,6 +7,7 @@ mod patterns; // patterns.rt: floats and signed numbers as bit patterns
 mod print; // print.rt: answers
 
 pub use fields::is_named;
+pub use fields::length_field;
 pub use fields::line_end;
 pub use fields::u64_field;
 pub use patterns::f32_field;
