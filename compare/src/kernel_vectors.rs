@@ -4,29 +4,16 @@
 
 use crate::kernels::{decay, drive, frequency, phase, pitch};
 use crate::random::draw_at;
+use crate::vectors::Replay;
 use std::f64::consts::{FRAC_PI_4, LN_2, SQRT_2};
-use std::fs;
 use std::io;
-use std::path::Path;
 use tono::det;
 
 const FOLDER: &str = concat!(env!("CARGO_MANIFEST_DIR"), "/../crates/det_vectors");
 /// How many random arguments of each kernel: half of any pattern, half musical.
 const RANDOM: u64 = 30;
 
-/// The two texts.
-#[derive(Default)]
-struct Replay {
-    cases: String,
-    answers: String,
-}
-
 impl Replay {
-    fn push(&mut self, case: String, answer: String) {
-        self.cases += &format!("{case}\n");
-        self.answers += &format!("{case} {answer}\n");
-    }
-
     /// A kernel in f64. An argument is written as it is, a NaN's pattern too.
     fn wide(&mut self, name: &str, arguments: &[f64], kernel: fn(f64) -> f64) {
         for x in arguments {
@@ -188,13 +175,5 @@ pub fn run() -> io::Result<()> {
     let random = (0..RANDOM).map(pitch);
     let pairs: Vec<(f64, f64)> = powers().into_iter().chain(random).collect();
     replay.powers(&pairs);
-    let folder = Path::new(FOLDER);
-    fs::write(folder.join("stdin"), &replay.cases)?;
-    fs::write(folder.join("stdout"), &replay.answers)?;
-    println!(
-        "{} cases, {} bytes",
-        replay.cases.lines().count(),
-        replay.cases.len()
-    );
-    Ok(())
+    replay.write(FOLDER)
 }

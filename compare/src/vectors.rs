@@ -8,15 +8,25 @@ use std::path::Path;
 
 const FOLDER: &str = concat!(env!("CARGO_MANIFEST_DIR"), "/../crates/float_vectors");
 
-/// The two texts.
+/// The two texts of a replay: the cases, and the cases with their answers.
 #[derive(Default)]
-struct Replay {
-    cases: String,
-    answers: String,
+pub struct Replay {
+    pub cases: String,
+    pub answers: String,
 }
 
 impl Replay {
-    fn push(&mut self, case: String, answer: String) {
+    /// Writes both files of a program.
+    pub fn write(&self, folder: &str) -> io::Result<()> {
+        let folder = Path::new(folder);
+        fs::write(folder.join("stdin"), &self.cases)?;
+        fs::write(folder.join("stdout"), &self.answers)?;
+        let (cases, bytes) = (self.cases.lines().count(), self.cases.len());
+        println!("{cases} cases, {bytes} bytes");
+        Ok(())
+    }
+
+    pub fn push(&mut self, case: String, answer: String) {
         self.cases += &format!("{case}\n");
         self.answers += &format!("{case} {answer}\n");
     }
@@ -141,9 +151,5 @@ pub fn run() -> io::Result<()> {
     replay.pair("max", max);
     replay.pair("min", min);
     replay.clamp();
-    let folder = Path::new(FOLDER);
-    fs::write(folder.join("stdin"), &replay.cases)?;
-    fs::write(folder.join("stdout"), &replay.answers)?;
-    println!("{} cases", replay.cases.lines().count());
-    Ok(())
+    replay.write(FOLDER)
 }
