@@ -11,35 +11,35 @@ use crate::trig::sin;
 pub fn sinf(x: f32) -> f32
     ensures { λ r. ⌜ r ≡ sinfOf x ⌝ }
 {
-    float::narrow(sin(float::widen(x)))
+    rounding::narrow(sin(rounding::widen(x)))
 }
 
 pub fn cosf(x: f32) -> f32
     ensures { λ r. ⌜ r ≡ cosfOf x ⌝ }
 {
-    float::narrow(cos(float::widen(x)))
+    rounding::narrow(cos(rounding::widen(x)))
 }
 
 pub fn expf(x: f32) -> f32
     ensures { λ r. ⌜ r ≡ expfOf x ⌝ }
 {
-    float::narrow(exp(float::widen(x)))
+    rounding::narrow(exp(rounding::widen(x)))
 }
 
 pub fn lnf(x: f32) -> f32
     ensures { λ r. ⌜ r ≡ lnfOf x ⌝ }
 {
-    float::narrow(ln(float::widen(x)))
+    rounding::narrow(ln(rounding::widen(x)))
 }
 
 pub fn powff(x: f32, y: f32) -> f32
     ensures { λ r. ⌜ r ≡ powffOf x y ⌝ }
 {
-    float::narrow(powf(float::widen(x), float::widen(y)))
+    rounding::narrow(powf(rounding::widen(x), rounding::widen(y)))
 }
 
 pub fn tanhf(x: f32) -> f32
     ensures { λ r. ⌜ r ≡ tanhfOf x ⌝ }
 {
-    float::narrow(tanh(float::widen(x)))
+    rounding::narrow(tanh(rounding::widen(x)))
 }

@@ -23,12 +23,12 @@ impl SeqNote {
         ensures { λ r. ⌜ r ≡ noteOf step len kind pitch gain ⌝ }
     {
         if kind == 0 {
-            let number = Pitch::Const(float::f32_from_bits(pitch));
+            let number = Pitch::Const(rounding::f32_from_bits(pitch));
             return Decoded::Note(SeqNote {
                 step,
                 len,
                 pitch: number,
-                gain: float::f32_from_bits(gain),
+                gain: rounding::f32_from_bits(gain),
             });
         }
         if kind == 1 {
@@ -37,7 +37,7 @@ impl SeqNote {
                 step,
                 len,
                 pitch: curve,
-                gain: float::f32_from_bits(gain),
+                gain: rounding::f32_from_bits(gain),
             });
         }
         Decoded::Kind

@@ -1,10 +1,3 @@
-mod Quotients
 mod Wholes
 mod Signs
 mod Casting
-mod Leading
-mod Pack
-mod Narrowing
-mod Normal
-mod RootLaw
-mod RootCases

@@ -20,7 +20,7 @@ use Rattle.ieee.proofs.Exactly.{exactly-fits, exactly-value}
 use Rattle.ieee.proofs.Sums.{add-exact, sub-exact}
 use Rattle.ieee.proofs.Digits.{size-at}
 use Rattle.float.specs.Small.{Small}
-use Rattle.float.proofs.Quotients.{closest-one, closest-add, raised-one, half-one, closest-below, cut-less, cut-same, raised-more, raised-same, half-up, half-same}
+use Rattle.ieee.proofs.Quotients.{closest-one, closest-add, raised-one, half-one, closest-below, cut-less, cut-same, raised-more, raised-same, half-up, half-same}
 
 -- the power of two from which on every value is whole
 abbrev pub H : Format → ℕ

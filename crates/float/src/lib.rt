@@ -1,24 +1,17 @@
 // IEEE 754 on f32 and f64: what Rust has as methods and casts and Rattle does not. Every function
 // has a result for every bit pattern; none asks anything of its caller. Each contract is one
 // equation with a definition of the crate `ieee`, in which one NaN stands for all of them.
-mod bits; // bits.rt: a float from its pattern
 mod cast; // cast.rt: floats to integers
-mod convert; // convert.rt: f64 to f32 and back
 mod order; // order.rt: max, min, clamp, abs
-mod square_root; // square_root.rt: the square root
 mod whole_f32; // whole_f32.rt: floor, trunc, round and fract of an f32
 mod whole_f64; // whole_f64.rt: floor, trunc and round of an f64
 
-pub use bits::f32_from_bits;
 pub use cast::f32_to_usize;
 pub use cast::f64_to_i64;
-pub use convert::narrow;
-pub use convert::widen;
 pub use order::abs_f32;
 pub use order::clamp_f32;
 pub use order::max_f32;
 pub use order::min_f32;
-pub use square_root::sqrt_f32;
 pub use whole_f32::floor_f32;
 pub use whole_f32::fract_f32;
 pub use whole_f32::round_f32;

@@ -21,7 +21,7 @@ fn answer_f32(line: &[u8]) {
         vectors::print_f32(float::abs_f32(x));
     }
     if vectors::is_named(line, b"sqrt") {
-        vectors::print_f32(float::sqrt_f32(x));
+        vectors::print_f32(rounding::sqrt_f32(x));
     }
     if vectors::is_named(line, b"bits") {
         vectors::print_f32(x);
@@ -45,10 +45,10 @@ fn answer_f64(line: &[u8]) {
 // Changes of type.
 fn answer_cast(line: &[u8]) {
     if vectors::is_named(line, b"widen") {
-        vectors::print_f64(float::widen(vectors::f32_field(line, 1)));
+        vectors::print_f64(rounding::widen(vectors::f32_field(line, 1)));
     }
     if vectors::is_named(line, b"narrow") {
-        vectors::print_f32(float::narrow(vectors::f64_field(line, 1)));
+        vectors::print_f32(rounding::narrow(vectors::f64_field(line, 1)));
     }
     if vectors::is_named(line, b"usize") {
         vectors::print_u64(float::f32_to_usize(vectors::f32_field(line, 1)) as u64);

@@ -13,21 +13,21 @@ use dsp::Rng;
 pub extern "C" fn h_narrow(x: f64) -> f32
     ensures { λ r. ⌜ r ≡ narrowOf x ⌝ }
 {
-    float::narrow(x)
+    rounding::narrow(x)
 }
 
 #[no_mangle]
 pub extern "C" fn h_widen(x: f32) -> f64
     ensures { λ r. ⌜ r ≡ x ⌝ }
 {
-    float::widen(x)
+    rounding::widen(x)
 }
 
 #[no_mangle]
 pub extern "C" fn h_sqrt(x: f32) -> f32
     ensures { λ r. ⌜ r ≡ sqrtOf x ⌝ }
 {
-    float::sqrt_f32(x)
+    rounding::sqrt_f32(x)
 }
 
 #[no_mangle]

@@ -13,3 +13,4 @@ pub mod Bounds
 pub mod Cut
 pub mod Range
 pub mod Size
+pub mod Quotients

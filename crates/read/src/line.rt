@@ -81,9 +81,9 @@ pub fn float_at(bits: &[u32], i: usize) -> f32
     ensures { λ r. ⌜ r ≡ floatAt (now (bits .entry)) i ⌝ }
 {
     if i < bits.len() {
-        return float::f32_from_bits(bits[i]);
+        return rounding::f32_from_bits(bits[i]);
     }
-    float::f32_from_bits(0)
+    rounding::f32_from_bits(0)
 }
 
 // The numbers of a line S.

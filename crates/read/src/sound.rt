@@ -157,7 +157,7 @@ fn sound_of(s: &[u8], at: usize, place: u32, wave: SeqWave) -> LineV
     };
     let sound = Sound {
         voice: voice_of(place, wave, &bits[..k]),
-        duty: float::f32_from_bits(duty as u32),
+        duty: rounding::f32_from_bits(duty as u32),
     };
     LineV::At(sound, next)
 }

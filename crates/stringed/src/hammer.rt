@@ -64,7 +64,7 @@ fn ratio_of(stretch: f32, k: usize) -> f32
     ensures { λ r. ⌜ r ≡ ratioOf stretch k ⌝ }
 {
     let kf = k as f32;
-    kf * float::sqrt_f32(1.0 + stretch * kf * kf)
+    kf * rounding::sqrt_f32(1.0 + stretch * kf * kf)
 }
 
 // Partial k at the start. Its phases are spread by the golden ratio, so that no two partials start

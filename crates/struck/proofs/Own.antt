@@ -7,8 +7,6 @@ use Rattle.laws.specs.Run.{samples}
 use Rattle.laws.proofs.Same.{Below, samples-same}
 use Rattle.dsl.specs.declared.knobs.BassKnobs.{BassKnobs}
 use Rattle.struck.specs.Epiano.{epianoDecay, epianoAt, epianoStart, epianoFrames}
-use Rattle.struck.specs.Mallet.{malletAt, malletStart, malletFrames}
-use Rattle.struck.specs.Bell.{bellAt, bellStart, bellFrames}
 use Rattle.struck.specs.Bass.{bassAt, bassStart, bassFrames}
 
 module _ (f f′ : ℕ → Float) (srf : Float) where
@@ -20,14 +18,6 @@ module _ (f f′ : ℕ → Float) (srf : Float) where
       ap (λ (first : Float). samples (epianoAt f gain srf (epianoDecay first)) (λ r. r .sample) (λ r. r .state) epianoStart (suc n)) (h 0 (zero-lt-suc n))
       ∙ samples-same (epianoAt f gain srf (epianoDecay (f′ 0))) (epianoAt f′ gain srf (epianoDecay (f′ 0))) (λ r. r .sample) (λ r. r .state) epianoStart (suc n)
       (λ i l s. ap (λ (p : Float). epianoAt (λ _. p) gain srf (epianoDecay (f′ 0)) i s) (h i l))
-
-  pub malletSame : (gain : Float) (n : ℕ) → Below f f′ n → malletFrames f gain srf n ≡ malletFrames f′ gain srf n
-  unfolding malletFrames malletAt
-  malletSame gain n h = samples-same (malletAt f gain srf) (malletAt f′ gain srf) (λ r. r .sample) (λ r. r .state) malletStart n (λ i l s. ap (λ (p : Float). malletAt (λ _. p) gain srf i s) (h i l))
-
-  pub bellSame : (n : ℕ) → Below f f′ n → bellFrames f srf n ≡ bellFrames f′ srf n
-  unfolding bellFrames bellAt
-  bellSame n h = samples-same (bellAt f srf) (bellAt f′ srf) (λ r. r .sample) (λ r. r .state) bellStart n (λ i l s. ap (λ (p : Float). bellAt (λ _. p) srf i s) (h i l))
 
   pub bassSame : (bass : BassKnobs) (gain : Float) (n : ℕ) → Below f f′ n → bassFrames f bass gain srf n ≡ bassFrames f′ bass gain srf n
   unfolding bassFrames bassAt

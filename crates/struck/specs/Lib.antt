@@ -1,4 +1,2 @@
 pub mod Epiano
-pub mod Mallet
-pub mod Bell
 pub mod Bass

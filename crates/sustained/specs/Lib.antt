@@ -1,4 +1,2 @@
 pub mod Organ
 pub mod Strings
-pub mod Brass
-pub mod Flute

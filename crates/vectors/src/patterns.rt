@@ -35,7 +35,7 @@ pub(crate) fn i64_bits(n: i64) -> u64 {
 
 // The f32 whose pattern is the low half of the number in field k.
 pub fn f32_field(line: &[u8], k: usize) -> f32 {
-    float::f32_from_bits((u64_field(line, k) % 0x1_0000_0000) as u32)
+    rounding::f32_from_bits((u64_field(line, k) % 0x1_0000_0000) as u32)
 }
 
 // The f64 whose pattern is the number in field k.

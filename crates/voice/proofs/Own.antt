@@ -17,15 +17,17 @@ use Rattle.waves.specs.Fm.{fmFrames}
 use Rattle.waves.specs.Cowbell.{cowbellFrames}
 use Rattle.waves.proofs.Own.{squareSame, triangleSame, sawtoothSame, sineSame, fmSame, cowbellSame}
 use Rattle.struck.specs.Epiano.{epianoFrames}
-use Rattle.struck.specs.Mallet.{malletFrames}
-use Rattle.struck.specs.Bell.{bellFrames}
+use Rattle.chimed.specs.Mallet.{malletFrames}
+use Rattle.chimed.specs.Bell.{bellFrames}
 use Rattle.struck.specs.Bass.{bassFrames}
-use Rattle.struck.proofs.Own.{epianoSame, malletSame, bellSame, bassSame}
+use Rattle.struck.proofs.Own.{epianoSame, bassSame}
+use Rattle.chimed.proofs.Own.{malletSame, bellSame}
 use Rattle.sustained.specs.Organ.{organFrames}
 use Rattle.sustained.specs.Strings.{stringsFrames}
-use Rattle.sustained.specs.Brass.{brassFrames}
-use Rattle.sustained.specs.Flute.{fluteFrames}
-use Rattle.sustained.proofs.Own.{organSame, stringsSame, brassSame, fluteSame}
+use Rattle.blown.specs.Brass.{brassFrames}
+use Rattle.blown.specs.Flute.{fluteFrames}
+use Rattle.sustained.proofs.Own.{organSame, stringsSame}
+use Rattle.blown.proofs.Own.{brassSame, fluteSame}
 use Rattle.plucked.specs.Pluck.{ringFrames, pluckFrames}
 use Rattle.stringed.specs.Piano.{soundFrames, pianoFrames}
 use Rattle.stringed.proofs.Pianos.{piano-same}

@@ -11,13 +11,13 @@ use Rattle.waves.specs.Noise.{noiseFrames}
 use Rattle.waves.specs.Fm.{fmFrames}
 use Rattle.waves.specs.Cowbell.{cowbellFrames}
 use Rattle.struck.specs.Epiano.{epianoFrames}
-use Rattle.struck.specs.Mallet.{malletFrames}
-use Rattle.struck.specs.Bell.{bellFrames}
+use Rattle.chimed.specs.Mallet.{malletFrames}
+use Rattle.chimed.specs.Bell.{bellFrames}
 use Rattle.struck.specs.Bass.{bassFrames}
 use Rattle.sustained.specs.Organ.{organFrames}
 use Rattle.sustained.specs.Strings.{stringsFrames}
-use Rattle.sustained.specs.Brass.{brassFrames}
-use Rattle.sustained.specs.Flute.{fluteFrames}
+use Rattle.blown.specs.Brass.{brassFrames}
+use Rattle.blown.specs.Flute.{fluteFrames}
 use Rattle.plucked.specs.Pluck.{pluckFrames}
 use Rattle.stringed.specs.Piano.{pianoFrames}
 use Rattle.groove.specs.Period.{periodOf}

@@ -6,7 +6,7 @@ use Rattle.dsp.specs.declared.rng.Rng.{Rng}
 use Rattle.dsp.proofs.States.{state-none}
 use Rattle.dsl.proofs.Reach.{reaches-less}
 use Rattle.waves.proofs.Own.{noiseDraws}
-use Rattle.sustained.proofs.Draws.{fluteDraws}
+use Rattle.blown.proofs.Draws.{fluteDraws}
 use Rattle.groove.specs.Draws.{drawsOf}
 use Rattle.groove.proofs.Thump.{thump-count}
 use Rattle.voice.specs.Voice.{waveFrames}

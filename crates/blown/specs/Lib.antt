@@ -1,0 +1,2 @@
+pub mod Brass
+pub mod Flute

@@ -1,0 +1,2 @@
+pub mod Mallet
+pub mod Bell

@@ -1,0 +1,6 @@
+mod Leading
+mod Pack
+mod Narrowing
+mod Normal
+mod RootLaw
+mod RootCases
