@@ -3,7 +3,8 @@ use mathlib.Core.Path.{_≡_, sym, ap, _∙_}
 use lib.ListN.{drop}
 use Rattle.note.specs.Answer.{Result, seen, outAfter, free}
 use Rattle.note.specs.declared.answer.Outcome.{Outcome}
-use Rattle.harness.specs.Called.{none, made, numberIn, drawsIn, stateAfterResult, Places, Holds}
+use Rattle.tally.specs.Tally.{reported}
+use Rattle.harness.specs.Called.{none, made, numberIn, stateAfterResult, Places, Holds}
 
 module _ (p : Places) where
   pub none-holds : p .number ≡ 4294967295 → p .draws ≡ p .draws₀ → p .state ≡ p .state₀ → p .out ≡ p .out₀ → p .string ≡ p .string₀ → Holds none p
@@ -19,7 +20,7 @@ module _ (p : Places) (x : Result) (a : Outcome) (h : Returned p x a) where
   pub outcome : (o : Outcome) → a ≡ o → x ≡ seen o (p .out)
   outcome o e = sym (h .answer) ∙ ap (λ (y : Outcome). seen y (p .out)) e
 
-  pub made-holds : (o : Outcome) → a ≡ o → p .number ≡ numberIn (seen o (p .out)) → p .draws ≡ drawsIn (seen o (p .out)) → p .state ≡ stateAfterResult (p .state₀) (seen o (p .out)) → Holds (made x) p
+  pub made-holds : (o : Outcome) → a ≡ o → p .number ≡ numberIn (seen o (p .out)) → p .draws ≡ reported (seen o (p .out)) → p .state ≡ stateAfterResult (p .state₀) (seen o (p .out)) → Holds (made x) p
   made-holds o e n d s =
       let q = outcome o e in record {
         number = rw q n;

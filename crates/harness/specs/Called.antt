@@ -5,6 +5,7 @@ use mathlib.Core.List.{List}
 use lib.ListN.{drop}
 use lib.Ieee.{Float}
 use Rattle.dsp.specs.SplitMix64.{stateAfter}
+use Rattle.tally.specs.Tally.{reported}
 use Rattle.note.specs.Answer.{Result, refused, accepted, outAfter, free}
 
 -- no call is made where the knobs or the wave are not such; otherwise there is a result
@@ -17,10 +18,6 @@ abbrev pub numberIn : Result → ℕ
 numberIn (refused number) = number
 numberIn (accepted draws frames) = 0
 
-abbrev pub drawsIn : Result → ℕ
-drawsIn (refused number) = 0
-drawsIn (accepted draws frames) = draws
-
 abbrev pub numberOfCall : Called → ℕ
 numberOfCall none = 4294967295
 numberOfCall (made r) = numberIn r
@@ -28,7 +25,7 @@ numberOfCall (made r) = numberIn r
 -- what the draws' place holds after a call; d is what it held before
 abbrev pub drawsAfterCall : ℕ → Called → ℕ
 drawsAfterCall d none = d
-drawsAfterCall d (made r) = drawsIn r
+drawsAfterCall d (made r) = reported r
 
 -- what the state's place holds; s is what it held before
 abbrev pub stateAfterResult : ℕ → Result → ℕ
