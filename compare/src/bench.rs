@@ -17,12 +17,14 @@ const FRAMES: usize = 48_000;
 const ENVELOPE: [f32; 5] = [0.01, 0.1, 0.7, 0.2, 0.2];
 /// A step of a second.
 const TEMPO: f32 = 60.0;
-const GAIN: f32 = 0.8;
+pub const GAIN: f32 = 0.8;
 /// Rounds of each side in turn, of which the fastest counts.
 const ROUNDS: usize = 9;
 
 /// What both sides are handed, and the buffers that the library is lent.
-struct Bench {
+pub struct Bench {
+    tempo: f32,
+    steps_per_beat: u32,
     pitch: Vec<f32>,
     duty: Vec<f32>,
     out: Vec<f32>,
@@ -39,17 +41,28 @@ fn pitches(notes: usize) -> Vec<f32> {
 }
 
 impl Bench {
-    fn new() -> Bench {
+    pub fn new(frames: usize) -> Bench {
         Bench {
-            pitch: vec![440.0; FRAMES],
-            duty: vec![0.5; FRAMES],
-            out: vec![0.0; FRAMES],
-            note_buf: vec![0.0; FRAMES],
+            tempo: TEMPO,
+            steps_per_beat: 1,
+            pitch: vec![440.0; frames],
+            duty: vec![0.5; frames],
+            out: vec![0.0; frames],
+            note_buf: vec![0.0; frames],
             string: vec![0.0; 9600],
         }
     }
 
-    fn our_note(&mut self, wave: u32) -> u32 {
+    /// The same at another tempo.
+    pub fn at(self, tempo: f32, steps_per_beat: u32) -> Bench {
+        Bench {
+            tempo,
+            steps_per_beat,
+            ..self
+        }
+    }
+
+    pub fn our_note(&mut self, wave: u32) -> u32 {
         h_note(NoteArgs {
             rate: RATE,
             wave,
@@ -64,14 +77,14 @@ impl Bench {
         })
     }
 
-    fn our_score(&mut self, wave: u32, words: &[u32]) -> u32 {
+    pub fn our_score(&mut self, wave: u32, words: &[u32]) -> u32 {
         h_score(ScoreArgs {
             state: &mut 1,
             draw: &mut 0,
             draws: &mut 0,
             rate: RATE,
-            tempo: TEMPO,
-            steps_per_beat: 1,
+            tempo: self.tempo,
+            steps_per_beat: self.steps_per_beat,
             swing: 0.0,
             humanize: 0.0,
             wave,
@@ -86,30 +99,45 @@ impl Bench {
         })
     }
 
-    fn their_note(&self, wave: SeqWave) -> Vec<f32> {
+    pub fn their_note(&self, wave: SeqWave) -> Vec<f32> {
         let voice = voice_of(wave, &USUAL);
         let mut rng = Rng::new(1);
         note_signal(&voice, GAIN, &self.pitch, &self.duty, RATE, &mut rng)
     }
 }
 
-fn their_score(wave: SeqWave, notes: &[SeqNote]) -> Vec<f32> {
+pub fn their_score(
+    wave: SeqWave,
+    notes: &[SeqNote],
+    frames: usize,
+    tempo: f32,
+    steps_per_beat: u32,
+) -> Vec<f32> {
     let voice = Voice {
         duty: 0.5,
         env: envelope(ENVELOPE),
         ..voice_of(wave, &USUAL)
     };
-    render(&voice, TEMPO, 1, notes, FRAMES, RATE, &mut Rng::new(1))
+    render(
+        &voice,
+        tempo,
+        steps_per_beat,
+        notes,
+        frames,
+        RATE,
+        &mut Rng::new(1),
+    )
 }
 
-/// The fastest round of each side, in nanoseconds a sample of a note.
-fn fastest<A, B>(
+/// The fastest of `rounds` of each side in turn, in nanoseconds a sample.
+pub fn fastest<A, B>(
+    rounds: usize,
     samples: usize,
     mut ours: impl FnMut() -> A,
     mut theirs: impl FnMut() -> B,
 ) -> [f64; 2] {
     let mut best = [f64::INFINITY; 2];
-    for _ in 0..ROUNDS {
+    for _ in 0..rounds {
         let begun = Instant::now();
         black_box(ours());
         best[0] = best[0].min(begun.elapsed().as_nanos() as f64);
@@ -137,14 +165,20 @@ fn chord(notes: usize) -> (Vec<u32>, Vec<SeqNote>) {
 }
 
 fn row(bench: &mut Bench, place: u32, name: &str, wave: SeqWave) -> [f64; 3] {
-    let shared = Bench::new();
-    let note = fastest(FRAMES, || bench.our_note(place), || shared.their_note(wave));
+    let shared = Bench::new(FRAMES);
+    let note = fastest(
+        ROUNDS,
+        FRAMES,
+        || bench.our_note(place),
+        || shared.their_note(wave),
+    );
     let [one, many] = [1, 16].map(|count| {
         let (words, notes) = chord(count);
         fastest(
+            ROUNDS,
             FRAMES * count,
             || bench.our_score(place, &words),
-            || their_score(wave, &notes),
+            || their_score(wave, &notes, FRAMES, TEMPO, 1),
         )
     });
     print!("{name:9}");
@@ -161,7 +195,7 @@ pub fn run() {
         "{:9} {:^23} {:^23} {:^23}",
         "", "note call", "score of one note", "chord of 16"
     );
-    let mut bench = Bench::new();
+    let mut bench = Bench::new(FRAMES);
     let mut logs = [0.0; 3];
     for (place, name, wave) in WAVES {
         let ratios = row(&mut bench, place, name, wave);

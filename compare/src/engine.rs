@@ -1,5 +1,7 @@
 //! Two functions on the same cases, in two threads.
 
+use std::iter::Sum;
+use std::ops::Add;
 use std::sync::atomic::{AtomicU64, Ordering};
 use std::thread;
 use std::time::Instant;
@@ -9,6 +11,37 @@ pub const THREADS: usize = 2;
 const CHUNK: u64 = 1 << 16;
 /// How many differing cases of a function are printed.
 pub const SHOWN: usize = 5;
+
+/// How many cases were compared, and how many of them differ.
+#[derive(Clone, Copy, Default)]
+pub struct Count {
+    pub cases: u64,
+    pub differ: u64,
+}
+
+impl Add for Count {
+    type Output = Count;
+    fn add(self, other: Count) -> Count {
+        Count {
+            cases: self.cases + other.cases,
+            differ: self.differ + other.differ,
+        }
+    }
+}
+
+impl Sum for Count {
+    fn sum<I: Iterator<Item = Count>>(counts: I) -> Count {
+        counts.fold(Count::default(), Count::add)
+    }
+}
+
+impl Count {
+    /// With the last line that every comparison prints.
+    pub fn printed(self) -> Count {
+        println!("{} differ in all", self.differ);
+        self
+    }
+}
 
 /// A result that is compared bit for bit, where one NaN counts as any other.
 pub trait Answer: Copy {
@@ -94,24 +127,24 @@ struct Differing {
     lines: Vec<String>,
 }
 
-/// Compares one function, prints its line, and answers how many cases differ.
+/// Compares one function and prints its line.
 pub fn compare<X: Answer, A: Answer>(
     name: &str,
     cases: &Cases<impl Fn(u64) -> X + Sync>,
     library: impl Fn(X) -> A + Sync,
     rust: impl Fn(X) -> A + Sync,
-) -> u64 {
+) -> Count {
     let begun = Instant::now();
     let next = AtomicU64::new(0);
     let shares = in_threads(|_| compare_share(&next, cases, &library, &rust));
     let seconds = begun.elapsed().as_secs_f64();
-    let differ = shares.iter().map(|d| d.count).sum();
-    let count = cases.count;
-    println!("{name:8} {count:>10} compared, {differ} differ, {seconds:.1} s");
+    let differ: u64 = shares.iter().map(|d| d.count).sum();
+    let cases = cases.count;
+    println!("{name:8} {cases:>10} compared, {differ} differ, {seconds:.1} s");
     for line in shares.iter().flat_map(|d| &d.lines).take(SHOWN) {
         println!("  {name} {line}");
     }
-    differ
+    Count { cases, differ }
 }
 
 /// One thread's share: chunks of cases, as long as there are any left.

@@ -1,14 +1,14 @@
 //! The float helpers against Rust's own operations.
 
 use crate::cases::f64_case;
-use crate::engine::{compare, Cases};
+use crate::engine::{compare, Cases, Count};
 use crate::harness::*;
 
 const F32_PATTERNS: u64 = 1 << 32;
 const F64_CASES: u64 = 1_000_000_000;
 
-/// Compares every function on one in `scale` of the cases, and answers how many differ.
-pub fn run(scale: u64) -> u64 {
+/// Compares every function on one in `scale` of the cases.
+pub fn run(scale: u64) -> Count {
     let single = Cases {
         count: F32_PATTERNS.div_ceil(scale),
         case: |i| f32::from_bits((i * scale) as u32),
@@ -17,7 +17,7 @@ pub fn run(scale: u64) -> u64 {
         count: F64_CASES.div_ceil(scale),
         case: f64_case,
     };
-    let differ = compare("floor", &single, |x| h_floor(x), f32::floor)
+    let count = compare("floor", &single, |x| h_floor(x), f32::floor)
         + compare("trunc", &single, |x| h_trunc(x), f32::trunc)
         + compare("round", &single, |x| h_round(x), f32::round)
         + compare("fract", &single, |x| h_fract(x), f32::fract)
@@ -30,6 +30,5 @@ pub fn run(scale: u64) -> u64 {
         + compare("trunc64", &double, |x| h_trunc64(x), f64::trunc)
         + compare("round64", &double, |x| h_round64(x), f64::round)
         + compare("i64", &double, |x| h_i64(x), |x| x as i64);
-    println!("{differ} differ in all");
-    differ
+    count.printed()
 }

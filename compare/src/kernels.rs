@@ -1,6 +1,6 @@
 //! The kernels against the original's det.rs.
 
-use crate::engine::{compare, Cases};
+use crate::engine::{compare, Cases, Count};
 use crate::harness::*;
 use crate::random::{draw_at, unit};
 use tono::det;
@@ -111,7 +111,7 @@ const KERNELS: [Kernel; 5] = [
 ];
 
 impl Kernel {
-    fn compare(&self, count: u64) -> u64 {
+    fn compare(&self, count: u64) -> Count {
         let Kernel {
             name,
             musical,
@@ -126,7 +126,7 @@ impl Kernel {
 }
 
 /// The power, of two arguments.
-fn compare_powers(count: u64) -> u64 {
+fn compare_powers(count: u64) -> Count {
     let any = |i| (any_f64(2 * i), any_f64(2 * i + 1));
     let any_narrow = |i| (any_f32(2 * i), any_f32(2 * i + 1));
     let narrow_pitch = |i| (pitch(i).0 as f32, pitch(i).1 as f32);
@@ -145,27 +145,24 @@ fn compare_powers(count: u64) -> u64 {
     )
 }
 
-/// Compares every kernel on `count` arguments, and answers how many differ.
-pub fn run(count: u64) -> u64 {
-    let one: u64 = KERNELS.iter().map(|kernel| kernel.compare(count)).sum();
-    let differ = one + compare_powers(count);
-    println!("{differ} differ in all");
-    differ
+/// Compares every kernel on `count` arguments.
+pub fn run(count: u64) -> Count {
+    let one: Count = KERNELS.iter().map(|kernel| kernel.compare(count)).sum();
+    (one + compare_powers(count)).printed()
 }
 
-/// Every f32 pattern through a wrapper.
-fn every(name: &str, ours: extern "C" fn(f32) -> f32, theirs: fn(f32) -> f32) -> u64 {
+/// One f32 pattern in `scale` through a wrapper.
+fn every(name: &str, scale: u64, ours: extern "C" fn(f32) -> f32, theirs: fn(f32) -> f32) -> Count {
     let cases = Cases {
-        count: 1 << 32,
-        case: |i| f32::from_bits(i as u32),
+        count: (1u64 << 32).div_ceil(scale),
+        case: |i| f32::from_bits((i * scale) as u32),
     };
     compare(name, &cases, |x| ours(x), theirs)
 }
 
-/// The same as `run`, and all 2^32 patterns of sinf and expf.
-pub fn run_all() -> u64 {
-    let differ =
-        run(COUNT) + every("sinf all", h_sinf, det::sinf) + every("expf all", h_expf, det::expf);
-    println!("{differ} differ in all");
-    differ
+/// The same as `run`, and one in `scale` of the 2^32 patterns of sinf and expf.
+pub fn run_all(count: u64, scale: u64) -> Count {
+    let every =
+        every("sinf all", scale, h_sinf, det::sinf) + every("expf all", scale, h_expf, det::expf);
+    (run(count) + every).printed()
 }

@@ -1,5 +1,6 @@
 //! Compares the proved library with plain Rust, and times the two.
 
+mod all;
 mod bench;
 mod borders;
 mod cases;
@@ -7,6 +8,7 @@ mod dsp;
 mod engine;
 mod groove_cases;
 mod groove_vectors;
+mod growth;
 mod harness;
 mod helper_bench;
 mod helpers;
@@ -39,13 +41,16 @@ mod voice_vectors;
 mod voices;
 mod waves;
 
+use engine::Count;
 use std::env;
 use std::io::{self, Read, Write};
 use std::process::ExitCode;
 
 const USAGE: &str =
-    "usage: compare helpers [SCALE]   every f32 and 10^9 f64 patterns; one in SCALE of them
+    "usage: compare all [SCALE [SEED]] every comparison, one case in SCALE; a SEED for other random cases
+       compare helpers [SCALE]   every f32 and 10^9 f64 patterns; one in SCALE of them
        compare bench             nanoseconds a sample of each wave by note and by score, library and original
+       compare growth            how the time grows with frames and with notes
        compare helper-bench      nanoseconds a call of the float helpers, library and Rust
        compare vectors           writes the replay files of crates/float_vectors
        compare kernels [COUNT]   COUNT arguments of each kernel, 10^8 by default
@@ -68,13 +73,17 @@ fn main() -> ExitCode {
     let words: Vec<String> = env::args().skip(1).collect();
     let words: Vec<&str> = words.iter().map(String::as_str).collect();
     match words.as_slice() {
+        ["all"] => status(all::run(1, 0)),
+        ["all", scale] => scaled(scale, |scale| status(all::run(scale, 0))),
+        ["all", scale, seed] => seeded(scale, seed),
         ["helpers"] => status(helpers::run(1)),
         ["helpers", scale] => scaled(scale, |scale| status(helpers::run(scale))),
         ["bench"] => done(bench::run()),
+        ["growth"] => done(growth::run()),
         ["helper-bench"] => done(helper_bench::run()),
         ["vectors"] => written(vectors::run()),
         ["kernels"] => status(kernels::run(kernels::COUNT)),
-        ["kernels", "all"] => status(kernels::run_all()),
+        ["kernels", "all"] => status(kernels::run_all(kernels::COUNT, 1)),
         ["kernels", count] => counted(count, kernels::run),
         ["kernel-bench"] => done(kernel_bench::run()),
         ["voices"] => status(voices::run(voices::COUNT)),
@@ -98,8 +107,8 @@ fn main() -> ExitCode {
     }
 }
 
-/// A run of `count` cases, which answers how many differ.
-fn counted(count: &str, run: impl Fn(u64) -> u64) -> ExitCode {
+/// A run of `count` cases.
+fn counted(count: &str, run: impl Fn(u64) -> Count) -> ExitCode {
     match count.parse() {
         Ok(count) => status(run(count)),
         Err(_) => usage(),
@@ -110,6 +119,13 @@ fn counted(count: &str, run: impl Fn(u64) -> u64) -> ExitCode {
 fn scaled(scale: &str, run: impl Fn(u64) -> ExitCode) -> ExitCode {
     match scale.parse() {
         Ok(scale) if scale > 0 => run(scale),
+        _ => usage(),
+    }
+}
+
+fn seeded(scale: &str, seed: &str) -> ExitCode {
+    match (scale.parse(), seed.parse()) {
+        (Ok(scale), Ok(seed)) if scale > 0 => status(all::run(scale, seed)),
         _ => usage(),
     }
 }
@@ -132,8 +148,8 @@ fn done(_: ()) -> ExitCode {
     ExitCode::SUCCESS
 }
 
-fn status(differ: u64) -> ExitCode {
-    if differ == 0 {
+fn status(count: Count) -> ExitCode {
+    if count.differ == 0 {
         ExitCode::SUCCESS
     } else {
         ExitCode::FAILURE

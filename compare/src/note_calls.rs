@@ -1,6 +1,6 @@
 //! Note calls of every outcome, through `h_note` and by the reference.
 
-use crate::engine::THREADS;
+use crate::engine::{Count, THREADS};
 use crate::harness::{h_note, NoteArgs};
 use crate::lent::{Lent, LentNumber};
 use crate::random::{state_at, Source};
@@ -155,7 +155,7 @@ fn share(first: u64, count: u64) -> Tried {
     tried
 }
 
-/// Compares `count` calls, and answers how many differ.
-pub fn run(count: u64) -> u64 {
+/// Compares `count` calls.
+pub fn run(count: u64) -> Count {
     tried::run("note calls", |thread| share(thread, count))
 }

@@ -1,5 +1,7 @@
 //! SplitMix64 in plain Rust, for cases to try and as the reference of the library's generator.
 
+use std::sync::atomic::{AtomicU64, Ordering};
+
 const GOLDEN_GAMMA: u64 = 0x9E37_79B9_7F4A_7C15;
 
 /// The state of `seed`'s generator after `count` draws.
@@ -15,9 +17,19 @@ pub fn draw(state: u64) -> u64 {
     z ^ (z >> 31)
 }
 
+/// What is added to the seeds of all cases: 0, or what a run was told.
+static RUN: AtomicU64 = AtomicU64::new(0);
+
+/// Has the run try other cases than the usual ones, where `seed` is not 0.
+pub fn set_run(seed: u64) {
+    let added = if seed == 0 { 0 } else { draw(seed) };
+    RUN.store(added, Ordering::Relaxed);
+}
+
 /// Draw number `index` of `seed`, counted from 0, so that every case can be made again from its
-/// number alone.
+/// number and the run's seed alone.
 pub fn draw_at(seed: u64, index: u64) -> u64 {
+    let seed = seed.wrapping_add(RUN.load(Ordering::Relaxed));
     draw(state_at(seed, index))
 }
 

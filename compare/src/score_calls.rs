@@ -1,6 +1,6 @@
 //! Lists of score calls on one session, through `h_score` and by the tally.
 
-use crate::engine::THREADS;
+use crate::engine::{Count, THREADS};
 use crate::harness::{h_score, ScoreArgs};
 use crate::lent::{Lent, LentNumber};
 use crate::long_scores::{long, longest};
@@ -202,7 +202,7 @@ fn share(first: u64, count: u64) -> Tried {
     tried
 }
 
-/// Compares `count` calls, and answers how many differ.
-pub fn run(count: u64) -> u64 {
+/// Compares `count` calls.
+pub fn run(count: u64) -> Count {
     tried::run("score calls", |thread| share(thread, count))
 }

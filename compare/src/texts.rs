@@ -1,6 +1,6 @@
 //! Text scores through `tono_play` and by the reference.
 
-use crate::engine::THREADS;
+use crate::engine::{Count, THREADS};
 use crate::harness::tono_play;
 use crate::lent::Lent;
 use crate::random::Source;
@@ -125,7 +125,7 @@ fn share(first: u64, count: u64) -> Tried {
     tried
 }
 
-/// Compares `count` texts, and answers how many differ.
-pub fn run(count: u64) -> u64 {
+/// Compares `count` texts.
+pub fn run(count: u64) -> Count {
     tried::run("texts", |thread| share(thread, count))
 }

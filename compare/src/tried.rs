@@ -1,6 +1,6 @@
 //! What a run of calls came to: how often each outcome came up, and what differs.
 
-use crate::engine::{in_threads, SHOWN};
+use crate::engine::{in_threads, Count, SHOWN};
 use crate::reference::NO_CALL;
 use crate::waves::WAVES;
 use std::collections::BTreeMap;
@@ -56,15 +56,15 @@ impl Tried {
     }
 }
 
-/// Has each thread try its share, prints what came of it, and answers how many calls differ.
-pub fn run(what: &str, share: impl Fn(u64) -> Tried + Sync) -> u64 {
+/// Has each thread try its share, and prints what came of it.
+pub fn run(what: &str, share: impl Fn(u64) -> Tried + Sync) -> Count {
     let begun = Instant::now();
     let all = in_threads(share)
         .into_iter()
         .fold(Tried::default(), Tried::join);
-    let calls: u64 = all.outcomes.values().sum();
+    let cases: u64 = all.outcomes.values().sum();
     let seconds = begun.elapsed().as_secs_f64();
-    println!("{calls} {what}, {} differ, {seconds:.1} s", all.differ);
+    println!("{cases} {what}, {} differ, {seconds:.1} s", all.differ);
     for (number, count) in &all.outcomes {
         match *number {
             0 => println!("  {count:>8} accepted"),
@@ -83,8 +83,8 @@ pub fn run(what: &str, share: impl Fn(u64) -> Tried + Sync) -> u64 {
     for line in all.lines.iter().take(SHOWN) {
         println!("  {line}");
     }
-    println!("{} differ in all", all.differ);
-    all.differ
+    let differ = all.differ;
+    Count { cases, differ }.printed()
 }
 
 /// The first of these that holds.

@@ -1,6 +1,6 @@
 //! The voices against the original's `seq_note_signal`, note by note.
 
-use crate::engine::{in_threads, same_values, THREADS};
+use crate::engine::{in_threads, same_values, Count, THREADS};
 use crate::harness::{h_note, NoteArgs};
 use crate::random::{draw, Source};
 use crate::waves::{voice_of, WAVES};
@@ -96,9 +96,9 @@ fn share(place: u32, wave: SeqWave, first: u64, count: u64) -> (u64, Option<(u64
     (differ, shown)
 }
 
-/// Compares `count` notes of each wave, and answers how many differ.
-pub fn run(count: u64) -> u64 {
-    let mut all = 0;
+/// Compares `count` notes of each wave.
+pub fn run(count: u64) -> Count {
+    let mut all = Count::default();
     for (place, name, wave) in WAVES {
         let begun = Instant::now();
         let shares = in_threads(|thread| share(place, wave, thread, count));
@@ -108,8 +108,11 @@ pub fn run(count: u64) -> u64 {
         if let Some((note, frame)) = shares.iter().find_map(|s| s.1) {
             println!("  {name}: note {note}, from frame {frame}");
         }
-        all += differ;
+        all = all
+            + Count {
+                cases: count,
+                differ,
+            };
     }
-    println!("{all} differ in all");
-    all
+    all.printed()
 }

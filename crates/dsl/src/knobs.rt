@@ -4,6 +4,7 @@ ghost use mathlib.Core.Path.{_≡_};
 ghost use Rattle.dsl.specs.Sized.{allSized};
 ghost use Rattle.dsl.specs.Knobs.{knobList, envList};
 use crate::sized::all_sized;
+use crate::wave::SeqWave;
 
 pub struct FmKnobs {
     pub fm_ratio: f32,
@@ -46,6 +47,15 @@ pub struct Adsr {
     pub s: f32,
     pub r: f32,
     pub punch: f32,
+}
+
+// A wave and its knobs. The knobs of the sets that the wave doesn't use are there too.
+pub struct SeqVoice {
+    pub wave: SeqWave,
+    pub fm: FmKnobs,
+    pub pluck: PluckKnobs,
+    pub piano: PianoKnobs,
+    pub bass: BassKnobs,
 }
 
 // Whether each knob of the four sets is sized.

@@ -10,6 +10,7 @@ pub use knobs::BassKnobs;
 pub use knobs::FmKnobs;
 pub use knobs::PianoKnobs;
 pub use knobs::PluckKnobs;
+pub use knobs::SeqVoice;
 pub use knobs::env_sized;
 pub use knobs::knobs_sized;
 pub use note::Decoded;

@@ -1,8 +1,8 @@
 -- What C gets where no call is made, and from a call by its outcome. Assumes nothing.
 use mathlib.Core.Path.{_≡_, sym, ap, _∙_}
 use lib.ListN.{drop}
-use Rattle.note.specs.Answer.{Result, seen, outAfter, free}
-use Rattle.note.specs.declared.answer.Outcome.{Outcome}
+use Rattle.outcome.specs.Answer.{Result, seen, outAfter, free}
+use Rattle.outcome.specs.declared.answer.Outcome.{Outcome}
 use Rattle.tally.specs.Tally.{reported}
 use Rattle.harness.specs.Called.{none, made, numberIn, stateAfterResult, Places, Holds}
 

@@ -4,12 +4,12 @@ use mathlib.Core.Path.{_≡_, sym, ap, _∙_}
 use lib.ListN.{length}
 use Rattle.dsp.specs.SplitMix64.{stateAfter}
 use Rattle.dsp.specs.declared.rng.Rng.{Rng}
-use Rattle.voice.specs.declared.note.SeqVoice.{SeqVoice}
-use Rattle.note.specs.Answer.{numberOf, Result}
+use Rattle.dsl.specs.declared.knobs.SeqVoice.{SeqVoice}
+use Rattle.outcome.specs.Answer.{numberOf, Result}
 use Rattle.note.specs.NoteCall.{NoteEvent, Voiced, noteResultOf, noteResultIn, rngAfter}
 use Rattle.note.specs.declared.answer.NoteAnswer.{NoteAnswer}
-use Rattle.note.specs.declared.answer.Outcome.the-variants.{Played, Refused}
-use Rattle.note.specs.declared.answer.Refusal.{Refusal}
+use Rattle.outcome.specs.declared.answer.Outcome.the-variants.{Played, Refused}
+use Rattle.outcome.specs.declared.answer.Refusal.{Refusal}
 use Rattle.harness.specs.Knobs.{voiceAt}
 use Rattle.harness.specs.Called.{Called, none, made, Places, Holds}
 use Rattle.harness.specs.Note.{NoteExport, NoteExported, calledWith, calledIn}

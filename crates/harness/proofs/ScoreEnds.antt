@@ -5,13 +5,13 @@ use lib.ListN.{length, drop}
 use Rattle.dsp.specs.SplitMix64.{stateAfter}
 use Rattle.dsp.specs.declared.rng.Rng.{Rng}
 use Rattle.dsl.specs.declared.knobs.Adsr.{Adsr}
-use Rattle.voice.specs.declared.note.SeqVoice.{SeqVoice}
-use Rattle.note.specs.Answer.{numberOf, Result}
-use Rattle.note.specs.declared.answer.Outcome.the-variants.{Played, Refused}
-use Rattle.note.specs.declared.answer.Refusal.{Refusal}
-use Rattle.score.specs.ScoreCall.{Event, Scored, resultOf, resultIn, sessionAfter}
-use Rattle.score.specs.declared.session.Session.{Session}
-use Rattle.score.specs.declared.answer.Answer.{Answer}
+use Rattle.dsl.specs.declared.knobs.SeqVoice.{SeqVoice}
+use Rattle.outcome.specs.Answer.{numberOf, Result}
+use Rattle.outcome.specs.declared.answer.Outcome.the-variants.{Played, Refused}
+use Rattle.outcome.specs.declared.answer.Refusal.{Refusal}
+use Rattle.calls.specs.ScoreCall.{Event, Scored, resultOf, resultIn, sessionAfter}
+use Rattle.session.specs.declared.Session.{Session}
+use Rattle.session.specs.declared.Answer.{Answer}
 use Rattle.harness.specs.Knobs.{voiceAt, envAt}
 use Rattle.harness.specs.Called.{Called, none, made, drawAfterCall, freeAfterCall, Places, Holds}
 use Rattle.harness.specs.Score.{ScoreExport, ScoreExported, seqWith, scoreWith, calledWith, calledIn}

@@ -6,7 +6,7 @@ use lib.ListN.{drop}
 use lib.Ieee.{Float}
 use Rattle.dsp.specs.SplitMix64.{stateAfter}
 use Rattle.tally.specs.Tally.{reported}
-use Rattle.note.specs.Answer.{Result, refused, accepted, outAfter, free}
+use Rattle.outcome.specs.Answer.{Result, refused, accepted, outAfter, free}
 
 -- no call is made where the knobs or the wave are not such; otherwise there is a result
 pub data Called : Type 0 where

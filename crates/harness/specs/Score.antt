@@ -5,9 +5,9 @@ use mathlib.Core.List.{List}
 use lib.ListN.{length, drop}
 use lib.Ieee.{Float}
 use Rattle.dsl.specs.declared.knobs.Adsr.{Adsr}
-use Rattle.voice.specs.declared.note.SeqVoice.{SeqVoice}
+use Rattle.dsl.specs.declared.knobs.SeqVoice.{SeqVoice}
 use Rattle.score.specs.Score.{Score, scoreOf}
-use Rattle.score.specs.ScoreCall.{resultOf}
+use Rattle.calls.specs.ScoreCall.{resultOf}
 use Rattle.score.specs.declared.seq.Seq.{Seq}
 use Rattle.harness.specs.Knobs.{voiceAt, envAt}
 use Rattle.harness.specs.Called.{Called, none, made, drawAfterCall, freeAfterCall, Places, Holds}

@@ -7,9 +7,9 @@ use dsl::BassKnobs;
 use dsl::FmKnobs;
 use dsl::PianoKnobs;
 use dsl::PluckKnobs;
+use dsl::SeqVoice;
 use dsl::SeqWave;
 use dsl::WaveAt;
-use voice::SeqVoice;
 
 // A voice, or nothing where there is no such wave or there are not 22 knobs.
 pub enum VoiceAt {

@@ -5,9 +5,9 @@ use crate::knobs::VoiceAt;
 use crate::knobs::env_at;
 use crate::knobs::voice_at;
 use dsp::Rng;
-use note::Outcome;
+use outcome::Outcome;
 use score::Seq;
-use score::Session;
+use session::Session;
 
 // 0 where the call is accepted, else the refusal's number. `state` is the state of the session's
 // generator, not its seed, and `draw` the session's count; both change only with an accepted call.

@@ -1,12 +1,6 @@
-// render/kit.rs: the cowbell.
-ghost use mathlib.Core.Path.{_≡_};
-ghost use Rattle.kit.specs.Cowbell.{cowbellOf};
+// The cowbell: render/kit.rs, and the wave of `seq_note_signal` of render/seq.rs that plays it.
+mod bell; // bell.rt: the wave
+mod sample; // sample.rt: one sample
 
-// One sample of a cowbell: two partials that clash, saturated, with a fast decay.
-pub fn cowbell_sample(f: f32, t: f32) -> f32
-    ensures { λ r. ⌜ r ≡ cowbellOf f t ⌝ }
-{
-    let a = dsp::tanh(2.5 * dsp::sin(dsp::TAU * f * t));
-    let b = dsp::tanh(2.5 * dsp::sin(dsp::TAU * f * 1.565 * t));
-    0.5 * (a + b) * dsp::exp(-t / 0.09)
-}
+pub use bell::cowbell;
+pub use sample::cowbell_sample;

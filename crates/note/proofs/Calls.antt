@@ -18,13 +18,13 @@ use Rattle.dsl.specs.Pitch.{pitchAt}
 use Rattle.dsl.specs.declared.pitch.Pitch.the-variants.{Curve}
 use Rattle.groove.specs.Draws.{drawsOf}
 use Rattle.voice.specs.Voice.{noteFrames}
-use Rattle.voice.specs.declared.note.SeqVoice.{SeqVoice}
-use Rattle.note.specs.Answer.{numberOf, Result, refused, accepted, unless, seen, outAfter, free}
+use Rattle.dsl.specs.declared.knobs.SeqVoice.{SeqVoice}
+use Rattle.outcome.specs.Answer.{numberOf, Result, refused, accepted, unless, seen, outAfter, free}
 use Rattle.note.specs.NoteCall.{NoteEvent, Voiced, valuesRefusal, noteCallRefusal, noteResultOf, noteResultIn, rngAfter}
 use Rattle.note.specs.declared.answer.NoteAnswer.{NoteAnswer}
-use Rattle.note.specs.declared.answer.Outcome.the-variants.{Played, Refused}
-use Rattle.note.specs.declared.answer.Refusal.{Refusal}
-use Rattle.note.proofs.Refusing.{refuses, cond-zero}
+use Rattle.outcome.specs.declared.answer.Outcome.the-variants.{Played, Refused}
+use Rattle.outcome.specs.declared.answer.Refusal.{Refusal}
+use Rattle.outcome.proofs.Refusing.{refuses, cond-zero}
 
 -- what an accepted call's arguments are
 pub record NoteAccepted (rate : ℕ) (pitch duty : List Float) (n string : ℕ) : Type 0 where

@@ -1,2 +1,1 @@
-pub mod Refusing
 mod Calls

@@ -12,8 +12,8 @@ use Rattle.dsl.specs.Sized.{sizedOf, allSized}
 use Rattle.dsl.specs.Knobs.{knobList}
 use Rattle.groove.specs.Draws.{drawsOf}
 use Rattle.voice.specs.Voice.{noteFrames}
-use Rattle.voice.specs.declared.note.SeqVoice.{SeqVoice}
-use Rattle.note.specs.Answer.{Result, refused, accepted, unless, seen, outAfter, free}
+use Rattle.dsl.specs.declared.knobs.SeqVoice.{SeqVoice}
+use Rattle.outcome.specs.Answer.{Result, refused, accepted, unless, seen, outAfter, free}
 use Rattle.note.specs.declared.answer.NoteAnswer.{NoteAnswer}
 
 -- "10 gain, or a pitch or duty value, not sized; 13 pitch empty; 14 pitch, duty and output differ in length"; 0: none applies

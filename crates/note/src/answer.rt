@@ -1,68 +1,9 @@
-// What a call answers. The numbers of the refusals are `numberOf` of specs/Answer.
-ghost use mathlib.Core.Path.{_≡_};
-ghost use Rattle.note.specs.Answer.{numberOf};
+// What a note call answers.
 use dsp::Rng;
-
-pub enum Refusal {
-    Rate,
-    Frames,
-    Tempo,
-    StepsPerBeat,
-    Groove,
-    Knobs,
-    Words,
-    Kind,
-    Place,
-    Size,
-    Lane,
-    Reach,
-    NoPitch,
-    Lengths,
-    NoteBuffer,
-    StringBuffer,
-    Draws,
-}
-
-impl Refusal {
-    pub fn number(self) -> u32
-        ensures { λ r. ⌜ r ≡ numberOf self ⌝ }
-    {
-        match self {
-            Refusal::Rate => 1,
-            Refusal::Frames => 2,
-            Refusal::Tempo => 3,
-            Refusal::StepsPerBeat => 4,
-            Refusal::Groove => 5,
-            Refusal::Knobs => 6,
-            Refusal::Words => 7,
-            Refusal::Kind => 8,
-            Refusal::Place => 9,
-            Refusal::Size => 10,
-            Refusal::Lane => 11,
-            Refusal::Reach => 12,
-            Refusal::NoPitch => 13,
-            Refusal::Lengths => 14,
-            Refusal::NoteBuffer => 20,
-            Refusal::StringBuffer => 21,
-            Refusal::Draws => 22,
-        }
-    }
-}
-
-// The draws made, or why nothing was done.
-pub enum Outcome {
-    Played(u64),
-    Refused(Refusal),
-}
+use outcome::Outcome;
 
 // A note call's answer, and the generator after it.
 pub struct NoteAnswer {
     pub rng: Rng,
     pub outcome: Outcome,
-}
-
-// What a call's tests find.
-pub enum Verdict {
-    Fine,
-    Refuse(Refusal),
 }

@@ -1,12 +1,12 @@
 // The note call.
 ghost use Rattle.note.specs.NoteCall.{Voiced};
 use crate::answer::NoteAnswer;
-use crate::answer::Outcome;
-use crate::answer::Verdict;
 use crate::verdict::note_call_verdict;
 use dsl::Pitch;
+use dsl::SeqVoice;
 use dsp::Rng;
-use voice::SeqVoice;
+use outcome::Outcome;
+use outcome::Verdict;
 
 // Fills `out` with a note whose pitch and duty at each frame are those of `pitch` and `duty`, and
 // answers how many draws it made. Of `string` an accepted call uses the first 9,600 values; a refused

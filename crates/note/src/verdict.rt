@@ -1,10 +1,10 @@
 // The refusals of a note call, in their order.
 ghost use mathlib.Core.Path.{_≡_};
-ghost use Rattle.note.specs.Answer.{verdictNumber};
+ghost use Rattle.outcome.specs.Answer.{verdictNumber};
 ghost use Rattle.note.specs.NoteCall.{noteCallRefusal, valuesRefusal};
-use crate::answer::Refusal;
-use crate::answer::Verdict;
-use voice::SeqVoice;
+use dsl::SeqVoice;
+use outcome::Refusal;
+use outcome::Verdict;
 
 // 10, 13 and 14.
 fn values_verdict(gain: f32, pitch: &[f32], duty: &[f32], n: usize) -> Verdict

@@ -8,7 +8,7 @@ use mathlib.Core.List.{List, [], _∷_, _++_}
 use lib.Ieee.{binary32, ofBits}
 use Rattle.dsl.specs.Wave.{waveAt}
 use Rattle.dsl.specs.declared.wave.SeqWave.the-variants.{Sawtooth, Fm}
-use Rattle.voice.specs.declared.note.SeqVoice.{SeqVoice}
+use Rattle.dsl.specs.declared.knobs.SeqVoice.{SeqVoice}
 use Rattle.digits.specs.Read.{got, broken, digitOf, byte, hexFrom, digitsFrom, fitting, decimal}
 use Rattle.read.specs.Line.{value, field, fields, before, ending, line, lineS, seedField, drawField, lineG, lineE}
 use Rattle.read.specs.Voice.{knobCount, voiceOf, voiceWith, soundOf, lineV}

@@ -14,7 +14,7 @@ use Rattle.dsl.specs.declared.knobs.FmKnobs.{FmKnobs}
 use Rattle.dsl.specs.declared.knobs.PluckKnobs.{PluckKnobs}
 use Rattle.dsl.specs.declared.knobs.PianoKnobs.{PianoKnobs}
 use Rattle.dsl.specs.declared.knobs.BassKnobs.{BassKnobs}
-use Rattle.voice.specs.declared.note.SeqVoice.{SeqVoice}
+use Rattle.dsl.specs.declared.knobs.SeqVoice.{SeqVoice}
 use Rattle.digits.specs.Read.{Read, got, broken, after, byte}
 use Rattle.read.specs.Line.{float, word, field, ending, floatAt}
 use Rattle.read.specs.declared.sound.Sound.{Sound}

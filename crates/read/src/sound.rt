@@ -16,9 +16,9 @@ use dsl::BassKnobs;
 use dsl::FmKnobs;
 use dsl::PianoKnobs;
 use dsl::PluckKnobs;
+use dsl::SeqVoice;
 use dsl::SeqWave;
 use dsl::WaveAt;
-use voice::SeqVoice;
 
 // The places of the waves that have knobs.
 const FM: u32 = 5;

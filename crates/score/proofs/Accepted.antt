@@ -20,7 +20,7 @@ use Rattle.dsl.proofs.Reach.{reaches-less}
 use Rattle.groove.specs.Number.{c1000}
 use Rattle.groove.specs.Length.{lengthOf}
 use Rattle.groove.proofs.Room.{sounded-le}
-use Rattle.note.proofs.Refusing.{cond-zero}
+use Rattle.outcome.proofs.Refusing.{cond-zero}
 use Rattle.score.specs.Score.{Score, noteAt, count, durOf, placeOf, place}
 use Rattle.score.specs.Refusals.{withinOf, numbersRefusal, voiceRefusal, passes, noteRefusal, orElse, firstFrom, refusalOf, notesRefusal, lentRefusal, listsRefusal, refusal, Clean}
 use Rattle.score.specs.declared.seq.Seq.{Seq}

@@ -1,11 +1,9 @@
 -- One note of a score, sounded or skipped. Use where code looks at a note's place. Assumes nothing.
-use Prim.Native.Nat.{ℕ, _+_, _≤_, _<_}
+use Prim.Native.Nat.{_+_, _≤_, _<_}
 use mathlib.Core.Path.{_≡_, refl}
-use mathlib.Core.List.{List}
 use mathlib.Core.Bool.{true, false}
 use native.Mathlib.Omega.{arith}
 use borrow.Author.Tests.{le-leb, leb-true, leb-false}
-use lib.Ieee.{Float}
 use Rattle.laws.proofs.If.{if-true, if-false}
 use Rattle.dsl.specs.Domain.{Frames}
 use Rattle.dsl.specs.declared.note.SeqNote.{SeqNote}
@@ -13,8 +11,7 @@ use Rattle.dsl.specs.declared.note.Decoded.the-variants.{Note}
 use Rattle.groove.specs.Length.{skipped}
 use Rattle.groove.specs.Draws.{drawsOf}
 use Rattle.groove.proofs.Room.{length-least, length-most, sounded-some, sounded-none, sounded-within}
-use Rattle.mix.specs.Mix.{mixedAt}
-use Rattle.score.specs.Score.{Score, durOf, placeOf, place, pitch, drawsIn, samplesIn, mixedIn, noteDraws, withNote}
+use Rattle.score.specs.Score.{Score, durOf, placeOf, place, pitch, drawsIn, noteDraws}
 
 module _ (s : Score) (m : SeqNote) where
   pub len-most : Frames (s .n) → place s m .len ≤ 16777216
@@ -31,10 +28,6 @@ module _ (s : Score) (m : SeqNote) where
     unfolding noteDraws drawsIn
     skipped-draws = if-true _ (le-leb _ _ late) refl
 
-    pub skipped-frames : (g : ℕ) (out : List Float) → out ≡ withNote s (Note m) g out
-    unfolding withNote mixedIn
-    skipped-frames g out = if-true _ (le-leb _ _ late) refl
-
   -- a sounded note: a length is at least 1, so that some frame of it sounds, and those that do are the score's
   module _ (heard : skipped (s .n) (place s m .start) ≡ false) where
     pub some-sounded : 0 < place s m .sounded
@@ -48,7 +41,3 @@ module _ (s : Score) (m : SeqNote) where
     pub sounded-draws : drawsOf (s .seq .voice .wave) (s .seq .rate) (pitch s m 0) (place s m .sounded) ≡ noteDraws s (Note m)
     unfolding noteDraws drawsIn
     sounded-draws = if-false _ heard refl
-
-    pub sounded-frames : (g : ℕ) (out : List Float) → mixedAt (place s m .start) (samplesIn s m g) (s .seq .env) (place s m .len) (s .seq .rate) (place s m .gain) out ≡ withNote s (Note m) g out
-    unfolding withNote mixedIn
-    sounded-frames g out = if-false _ heard refl

@@ -1,10 +1,9 @@
--- A score call's numbers, voice, note words and lane, as values, and what 01 makes of them: where each note stands, its draws and samples, and the frames.
+-- A score call's numbers, voice, note words and lane, as values, and what 01 makes of them: where each note stands, and its draws.
 use Prim.Native.Nat.{ℕ, zero, suc, _+_, _*_, _/_}
 use mathlib.Core.List.{List}
 use mathlib.Core.Bool.{cond}
 use lib.ListN.{length, getD}
 use lib.Ieee.{Float}
-use Rattle.dsp.specs.SplitMix64.{stateAfter}
 use Rattle.dsl.specs.Note.{noteOf}
 use Rattle.dsl.specs.Pitch.{pitchAt}
 use Rattle.dsl.specs.declared.note.SeqNote.{SeqNote}
@@ -13,8 +12,6 @@ use Rattle.dsl.specs.declared.note.Decoded.the-variants.{Note, Kind}
 use Rattle.groove.specs.Timing.{stepDur, grooveOf}
 use Rattle.groove.specs.Length.{lengthOf, skipped, soundedOf}
 use Rattle.groove.specs.Draws.{drawsOf}
-use Rattle.voice.specs.Voice.{noteFrames}
-use Rattle.mix.specs.Mix.{silence, mixedAt}
 use Rattle.score.specs.declared.seq.Seq.{Seq}
 use Rattle.score.specs.declared.place.Place.{Place}
 
@@ -58,22 +55,10 @@ module _ (s : Score) (m : SeqNote) where
   unfoldable pub drawsIn : ℕ
   drawsIn = cond (skipped (s .n) (place .start)) 0 (drawsOf (s .seq .voice .wave) (s .seq .rate) (pitch 0) (place .sounded))
 
-  -- from the state g, "at the call's rate, with its wave, its knobs and the note's own gain, over the pitch and duty of its sounded frames"
-  unfoldable pub samplesIn : ℕ → List Float
-  samplesIn g = noteFrames (s .seq .rate) (s .seq .voice) (m .gain) pitch (λ _. s .seq .duty) g (place .sounded)
-
-  -- the frames with those samples added "as in module 7"; a skipped note adds none
-  unfoldable pub mixedIn : ℕ → List Float → List Float
-  mixedIn g out = cond (skipped (s .n) (place .start)) out (mixedAt (place .start) (samplesIn g) (s .seq .env) (place .len) (s .seq .rate) (place .gain) out)
-
 -- the same of five words; those of no kind are refused with 8, and never played
 unfoldable pub noteDraws : Score → Decoded → ℕ
 noteDraws s (Note m) = drawsIn s m
 noteDraws s Kind = 0
-
-unfoldable pub withNote : Score → Decoded → ℕ → List Float → List Float
-withNote s (Note m) g out = mixedIn s m g out
-withNote s Kind g out = out
 
 -- the draws of the first k notes
 unfoldable pub drawsBefore : Score → ℕ → ℕ
@@ -83,12 +68,3 @@ drawsBefore s (suc k) = drawsBefore s k + noteDraws s (noteAt (s .notes) k)
 -- "D is the sum of demand 3's draws over the call's own sounded notes."
 unfoldable pub scoreDraws : Score → ℕ
 scoreDraws s = drawsBefore s (count s)
-
--- The frames after the first k notes, from the seed `seed` at draw d: "Its notes are taken in list order, with a draw x that starts at d .. A sounded note with e draws
--- starts from state s + x × G .. then x becomes x + e", so that x is d and the draws of the notes before.
-unfoldable pub framesAfter : Score → ℕ → ℕ → ℕ → List Float
-framesAfter s seed d zero = silence (s .n)
-framesAfter s seed d (suc k) = withNote s (noteAt (s .notes) k) (stateAfter seed (d + drawsBefore s k)) (framesAfter s seed d k)
-
-unfoldable pub scoreFrames : Score → ℕ → ℕ → List Float
-scoreFrames s seed d = framesAfter s seed d (count s)

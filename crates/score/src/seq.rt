@@ -1,6 +1,6 @@
 // The numbers and the voice of a score call.
 use dsl::Adsr;
-use voice::SeqVoice;
+use dsl::SeqVoice;
 
 // `Node::Seq` of the source, and the rate. The duty of a score is a number.
 pub struct Seq {

@@ -9,16 +9,17 @@ use lib.Dec.{ltb}
 use Rattle.dsp.specs.SplitMix64.{stateAfter}
 use Rattle.dsp.specs.declared.rng.Rng.{Rng}
 use Rattle.dsl.specs.Domain.{Rate, Frames}
-use Rattle.note.specs.Answer.{numberOf, Result, refused, accepted, unless, seen, outAfter, free}
-use Rattle.note.specs.declared.answer.Outcome.the-variants.{Played, Refused}
-use Rattle.note.specs.declared.answer.Refusal.{Refusal}
-use Rattle.note.specs.declared.answer.Refusal.the-variants.{Draws}
-use Rattle.note.proofs.Refusing.{refuses}
-use Rattle.score.specs.Score.{Score, scoreDraws, scoreFrames}
+use Rattle.outcome.specs.Answer.{numberOf, Result, refused, accepted, unless, seen, outAfter, free}
+use Rattle.outcome.specs.declared.answer.Outcome.the-variants.{Played, Refused}
+use Rattle.outcome.specs.declared.answer.Refusal.{Refusal}
+use Rattle.outcome.specs.declared.answer.Refusal.the-variants.{Draws}
+use Rattle.outcome.proofs.Refusing.{refuses}
+use Rattle.score.specs.Score.{Score, scoreDraws}
+use Rattle.calls.specs.Frames.{scoreFrames}
 use Rattle.score.specs.Refusals.{refusal, refusalAt, Clean}
-use Rattle.score.specs.ScoreCall.{Event, Scored, scoreIn, sessionAfter, resultOf, resultIn}
-use Rattle.score.specs.declared.session.Session.{Session}
-use Rattle.score.specs.declared.answer.Answer.{Answer}
+use Rattle.calls.specs.ScoreCall.{Event, Scored, scoreIn, sessionAfter, resultOf, resultIn}
+use Rattle.session.specs.declared.Session.{Session}
+use Rattle.session.specs.declared.Answer.{Answer}
 use Rattle.score.proofs.Accepted.{accepted-score}
 use Rattle.verdict.specs.Sum.{sumOf}
 use Rattle.verdict.specs.declared.draws.Sum.the-variants.{Over, Total}

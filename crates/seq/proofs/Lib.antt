@@ -1,3 +1,1 @@
-mod Sounding
-mod Playing
 mod Calls

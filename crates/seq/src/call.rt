@@ -1,12 +1,12 @@
 // The score call.
-ghost use Rattle.score.specs.ScoreCall.{Scored};
-use crate::notes::play_notes;
-use note::Outcome;
-use note::Refusal;
-use note::Verdict;
-use score::Answer;
+ghost use Rattle.calls.specs.ScoreCall.{Scored};
+use outcome::Outcome;
+use outcome::Refusal;
+use outcome::Verdict;
+use playing::play_notes;
 use score::Seq;
-use score::Session;
+use session::Answer;
+use session::Session;
 use verdict::Sum;
 
 // Fills `out` with a score, and answers how many draws it made and the session after them. `notes` has

@@ -8,11 +8,13 @@ use native.Mathlib.Nat.{zero-add, add-zero, le-refl}
 use lib.Ieee.{Float}
 use Rattle.dsp.specs.SplitMix64.{stateAfter}
 use Rattle.dsp.proofs.States.{state-add}
-use Rattle.note.specs.Answer.{Result, refused, accepted, unless}
-use Rattle.score.specs.Score.{Score, noteAt, count, withNote, drawsBefore, scoreDraws, framesAfter, scoreFrames}
+use Rattle.outcome.specs.Answer.{Result, refused, accepted, unless}
+use Rattle.score.specs.Score.{Score, noteAt, count, drawsBefore, scoreDraws}
+use Rattle.calls.specs.Frames.{withNote, framesAfter, scoreFrames}
 use Rattle.score.specs.Refusals.{refusal, refusalAt}
-use Rattle.score.specs.ScoreCall.{Event, scoreIn, sessionAt, sessionAfter, resultOf, resultIn}
-use Rattle.score.specs.declared.session.Session.{Session}
+use Rattle.calls.specs.ScoreCall.{Event, scoreIn, sessionAfter, resultOf, resultIn}
+use Rattle.session.specs.Opened.{sessionAt}
+use Rattle.session.specs.declared.Session.{Session}
 use Rattle.score.proofs.Accepted.{or-zero}
 use Rattle.tally.specs.Tally.{Call, Taken, reported, allTaken, tallied, newDraw, tally, total}
 use Rattle.tally.specs.Claim.{Run, none, call, callIn, seenIn, Agrees}

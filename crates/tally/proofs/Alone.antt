@@ -16,9 +16,10 @@ use Rattle.dsl.specs.declared.note.SeqNote.{SeqNote}
 use Rattle.groove.specs.Length.{skipped}
 use Rattle.groove.specs.Draws.{drawsOf}
 use Rattle.voice.proofs.Own.{note-same}
-use Rattle.note.specs.Answer.{accepted}
+use Rattle.outcome.specs.Answer.{accepted}
 use Rattle.note.specs.NoteCall.{valuesRefusal, noteCallRefusal, noteResultOf}
-use Rattle.score.specs.Score.{Score, place, pitch, drawsIn, samplesIn}
+use Rattle.score.specs.Score.{Score, place, pitch, drawsIn}
+use Rattle.calls.specs.Frames.{samplesIn}
 use Rattle.score.specs.Refusals.{refusal}
 use Rattle.score.proofs.Accepted.{NoteFine, clean-note, sounded-reached, Accepted, accepted-score}
 use Rattle.tally.specs.Alone.{values, aloneOf, Alone}

@@ -11,8 +11,9 @@ use Rattle.dsl.specs.declared.note.Decoded.{Decoded}
 use Rattle.dsl.specs.declared.note.Decoded.the-variants.{Note, Kind}
 use Rattle.groove.specs.Length.{skipped}
 use Rattle.mix.specs.Mix.{silence, mixedAt}
-use Rattle.note.specs.Answer.{accepted}
-use Rattle.score.specs.Score.{Score, noteAt, count, place, drawsIn, samplesIn, mixedIn, noteDraws, withNote, drawsBefore, framesAfter}
+use Rattle.outcome.specs.Answer.{accepted}
+use Rattle.score.specs.Score.{Score, noteAt, count, place, drawsIn, noteDraws, drawsBefore}
+use Rattle.calls.specs.Frames.{samplesIn, mixedIn, withNote, framesAfter}
 use Rattle.tally.specs.Alone.{aloneOf, Alone}
 use Rattle.tally.specs.Tally.{Taken, reported, framesIn, taken, takenAfter}
 

@@ -8,9 +8,10 @@ use lib.Ieee.{Float}
 use Rattle.dsl.specs.declared.note.SeqNote.{SeqNote}
 use Rattle.dsl.specs.declared.note.Decoded.the-variants.{Note}
 use Rattle.groove.specs.Length.{skipped}
-use Rattle.note.specs.Answer.{Result, accepted}
+use Rattle.outcome.specs.Answer.{Result, accepted}
 use Rattle.note.specs.NoteCall.{noteResultOf}
-use Rattle.score.specs.Score.{Score, noteAt, count, place, pitch, drawsIn, samplesIn}
+use Rattle.score.specs.Score.{Score, noteAt, count, place, pitch, drawsIn}
+use Rattle.calls.specs.Frames.{samplesIn}
 
 -- the first m values of f, as a slice holds them
 unfoldable pub values : (ℕ → Float) → ℕ → List Float

@@ -3,9 +3,10 @@ use Prim.Native.Nat.{ℕ, _+_}
 use mathlib.Core.Path.{_≡_}
 use mathlib.Core.List.{List, [], _∷_, map}
 use lib.ListN.{length}
-use Rattle.note.specs.Answer.{Result, seen}
-use Rattle.score.specs.ScoreCall.{Event, Scored, scoreIn, sessionAt}
-use Rattle.score.specs.declared.session.Session.{Session}
+use Rattle.outcome.specs.Answer.{Result, seen}
+use Rattle.calls.specs.ScoreCall.{Event, Scored, scoreIn}
+use Rattle.session.specs.Opened.{sessionAt}
+use Rattle.session.specs.declared.Session.{Session}
 use Rattle.tally.specs.Tally.{Call, tally, total}
 
 -- A list of score calls, accepted or refused, from the session a to the session b. Each call meets the contract of `render_seq` on the session as the last one left it, and

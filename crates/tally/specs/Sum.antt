@@ -10,7 +10,8 @@ use Rattle.dsp.specs.SplitMix64.{stateAfter}
 use Rattle.dsl.specs.declared.note.Decoded.{Decoded}
 use Rattle.dsl.specs.declared.note.Decoded.the-variants.{Note, Kind}
 use Rattle.mix.specs.Envelope.{adsrAt}
-use Rattle.score.specs.Score.{Score, noteAt, place, samplesIn, drawsBefore}
+use Rattle.score.specs.Score.{Score, noteAt, place, drawsBefore}
+use Rattle.calls.specs.Frames.{samplesIn}
 
 -- whether frame i is one of the m frames from `start` on
 abbrev pub among : ℕ → ℕ → ℕ → Bool

@@ -8,7 +8,7 @@ use Rattle.dsl.specs.declared.note.Decoded.{Decoded}
 use Rattle.dsl.specs.declared.note.Decoded.the-variants.{Note, Kind}
 use Rattle.groove.specs.Length.{skipped}
 use Rattle.mix.specs.Mix.{silence, mixedAt}
-use Rattle.note.specs.Answer.{Result, refused, accepted, unless}
+use Rattle.outcome.specs.Answer.{Result, refused, accepted, unless}
 use Rattle.score.specs.Score.{Score, noteAt, count, place, scoreDraws}
 use Rattle.score.specs.Refusals.{refusalAt}
 use Rattle.tally.specs.Alone.{aloneOf}

@@ -1,3 +1,2 @@
 mod Shown
-mod Copied
 pub mod Replying

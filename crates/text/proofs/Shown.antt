@@ -6,10 +6,11 @@ use borrow.Author.Tests.{lt-ltb, le-ltb}
 use lib.ListN.{length}
 use Rattle.laws.proofs.If.{if-true, if-false}
 use Rattle.dsp.specs.SplitMix64.{stateAfter}
-use Rattle.note.specs.Answer.{Result}
-use Rattle.score.specs.ScoreCall.{Event, Scored, sessionAt}
+use Rattle.outcome.specs.Answer.{Result}
+use Rattle.calls.specs.ScoreCall.{Event, Scored}
+use Rattle.session.specs.Opened.{sessionAt}
 use Rattle.score.specs.declared.seq.Seq.{Seq}
-use Rattle.score.specs.declared.session.Session.{Session}
+use Rattle.session.specs.declared.Session.{Session}
 use Rattle.tally.specs.Tally.{Call, tally}
 use Rattle.tally.specs.Claim.{none, call, callIn, seenIn}
 use Rattle.tally.proofs.AllCalls.{all-calls}

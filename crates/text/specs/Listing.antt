@@ -5,7 +5,7 @@ use mathlib.Core.Bool.{Bool, true, cond}
 use lib.ListN.{length}
 use lib.Dec.{ltb}
 use Rattle.dsp.specs.SplitMix64.{stateAfter}
-use Rattle.note.specs.Answer.{Result, refused, accepted}
+use Rattle.outcome.specs.Answer.{Result, refused, accepted}
 use Rattle.score.specs.Score.{scoreOf}
 use Rattle.score.specs.declared.seq.Seq.{Seq}
 use Rattle.tally.specs.Tally.{Call, Tally, tally}

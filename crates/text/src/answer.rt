@@ -1,11 +1,11 @@
 // A score call's answer, printed.
 ghost use Prim.Native.Nat.{_≤_};
 ghost use lib.ListN.{length};
-ghost use Rattle.note.specs.Answer.{seen};
+ghost use Rattle.outcome.specs.Answer.{seen};
 ghost use Rattle.listing.specs.Printed.{Printed};
 ghost use Rattle.text.specs.Listing.{shownAt};
-use note::Outcome;
-use score::Answer;
+use outcome::Outcome;
+use session::Answer;
 
 // Prints an answer and the frames that the call left at the start of `page`, and gives the place
 // after them.

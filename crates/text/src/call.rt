@@ -6,9 +6,9 @@ ghost use Rattle.text.specs.Listing.{listing};
 ghost use Rattle.text.specs.Reply.{Replied};
 use crate::buffers::page_buffer;
 use crate::buffers::words_buffer;
-use crate::copy::copy_bytes;
-use crate::copy::written_bytes;
 use crate::play::play_score;
+use copying::copy_bytes;
+use copying::written_bytes;
 use read::Parsed;
 
 // Prints the listing of a text score at the start of `page`, and gives its length.

@@ -2,7 +2,6 @@
 mod answer; // answer.rt: a score call's answer, printed
 mod buffers; // buffers.rt: what a text call plays and prints in
 mod call; // call.rt: the text call
-mod copy; // copy.rt: bytes into a reply
 mod play; // play.rt: the score call of a text score
 
 pub use call::Reply;

@@ -7,7 +7,7 @@ use crate::answer::print_answer;
 use crate::buffers::frames_buffer;
 use crate::buffers::string_buffer;
 use score::Seq;
-use score::Session;
+use session::Session;
 
 // Plays n frames from the session that `seed` and `draw` open, prints the listing at the start of
 // `page`, and gives its length.

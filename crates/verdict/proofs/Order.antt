@@ -8,9 +8,9 @@ use native.Mathlib.Numerals.{add-one}
 use borrow.Author.Tests.{ltb-false}
 use lib.Dec.{ltb}
 use Rattle.dsl.specs.Domain.{Frames}
-use Rattle.note.specs.Answer.{numberOf, Result, refused, accepted, unless}
-use Rattle.note.specs.declared.answer.Refusal.{Refusal}
-use Rattle.note.proofs.Refusing.{refuses, cond-zero}
+use Rattle.outcome.specs.Answer.{numberOf, Result, refused, accepted, unless}
+use Rattle.outcome.specs.declared.answer.Refusal.{Refusal}
+use Rattle.outcome.proofs.Refusing.{refuses, cond-zero}
 use Rattle.score.specs.Refusals.{orElse, firstFrom, numbersRefusal}
 use Rattle.score.specs.declared.seq.Seq.{Seq}
 

@@ -1,13 +1,13 @@
 // All refusals of a score call but 22, in their order.
 ghost use mathlib.Core.Path.{_≡_};
-ghost use Rattle.note.specs.Answer.{verdictNumber};
+ghost use Rattle.outcome.specs.Answer.{verdictNumber};
 ghost use Rattle.score.specs.Score.{scoreOf};
 ghost use Rattle.score.specs.Refusals.{lentRefusal, listsRefusal, refusal};
 use crate::notes::notes_verdict;
 use crate::numbers::numbers_verdict;
 use crate::numbers::voice_verdict;
-use note::Refusal;
-use note::Verdict;
+use outcome::Refusal;
+use outcome::Verdict;
 use score::Seq;
 
 // 20 and 21.

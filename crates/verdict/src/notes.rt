@@ -3,13 +3,13 @@ ghost use mathlib.Core.Path.{_≡_};
 ghost use Prim.Native.Nat.{_+_, _<_};
 ghost use lib.ListN.{length};
 ghost use Rattle.dsl.specs.Domain.{Frames};
-ghost use Rattle.note.specs.Answer.{verdictNumber};
+ghost use Rattle.outcome.specs.Answer.{verdictNumber};
 ghost use Rattle.score.specs.Score.{scoreOf};
 ghost use Rattle.score.specs.Refusals.{passes, noteRefusal, notesRefusal};
 use dsl::Decoded;
 use dsl::Pitch;
-use note::Refusal;
-use note::Verdict;
+use outcome::Refusal;
+use outcome::Verdict;
 use score::Seq;
 
 // Whether a curve of `len` frames passes the end of a lane of `lane` values.

@@ -1,9 +1,9 @@
 // The refusals of a score's numbers and of its voice.
 ghost use mathlib.Core.Path.{_≡_};
-ghost use Rattle.note.specs.Answer.{verdictNumber};
+ghost use Rattle.outcome.specs.Answer.{verdictNumber};
 ghost use Rattle.score.specs.Refusals.{withinOf, numbersRefusal, voiceRefusal};
-use note::Refusal;
-use note::Verdict;
+use outcome::Refusal;
+use outcome::Verdict;
 use score::Seq;
 
 // Whether x is from low to high; a NaN is not.

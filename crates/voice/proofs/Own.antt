@@ -14,8 +14,9 @@ use Rattle.waves.specs.Pulse.{squareFrames, triangleFrames}
 use Rattle.waves.specs.Plain.{sawtoothFrames, sineFrames}
 use Rattle.waves.specs.Noise.{noiseFrames}
 use Rattle.waves.specs.Fm.{fmFrames}
-use Rattle.waves.specs.Cowbell.{cowbellFrames}
-use Rattle.waves.proofs.Own.{squareSame, triangleSame, sawtoothSame, sineSame, fmSame, cowbellSame}
+use Rattle.kit.specs.Voice.{cowbellFrames}
+use Rattle.waves.proofs.Own.{squareSame, triangleSame, sawtoothSame, sineSame, fmSame}
+use Rattle.kit.proofs.Own.{cowbellSame}
 use Rattle.struck.specs.Epiano.{epianoFrames}
 use Rattle.chimed.specs.Mallet.{malletFrames}
 use Rattle.chimed.specs.Bell.{bellFrames}
@@ -33,7 +34,7 @@ use Rattle.stringed.specs.Piano.{soundFrames, pianoFrames}
 use Rattle.stringed.proofs.Pianos.{piano-same}
 use Rattle.groove.specs.Period.{periodOf}
 use Rattle.voice.specs.Voice.{waveFrames, noteFrames}
-use Rattle.voice.specs.declared.note.SeqVoice.{SeqVoice}
+use Rattle.dsl.specs.declared.knobs.SeqVoice.{SeqVoice}
 
 module _ (r : ℕ) (v : SeqVoice) (gain : Float) (f f′ d d′ : ℕ → Float) (s : ℕ) where
   -- a pluck reads only its first pitch, and with no frame not even that

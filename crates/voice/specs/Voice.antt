@@ -9,7 +9,7 @@ use Rattle.waves.specs.Pulse.{squareFrames, triangleFrames}
 use Rattle.waves.specs.Plain.{sawtoothFrames, sineFrames}
 use Rattle.waves.specs.Noise.{noiseFrames}
 use Rattle.waves.specs.Fm.{fmFrames}
-use Rattle.waves.specs.Cowbell.{cowbellFrames}
+use Rattle.kit.specs.Voice.{cowbellFrames}
 use Rattle.struck.specs.Epiano.{epianoFrames}
 use Rattle.chimed.specs.Mallet.{malletFrames}
 use Rattle.chimed.specs.Bell.{bellFrames}
@@ -21,7 +21,7 @@ use Rattle.blown.specs.Flute.{fluteFrames}
 use Rattle.plucked.specs.Pluck.{pluckFrames}
 use Rattle.stringed.specs.Piano.{pianoFrames}
 use Rattle.groove.specs.Period.{periodOf}
-use Rattle.voice.specs.declared.note.SeqVoice.{SeqVoice}
+use Rattle.dsl.specs.declared.knobs.SeqVoice.{SeqVoice}
 
 -- by the wave, with the knobs of the voice v at the rate r
 unfoldable pub waveFrames : SeqWave → ℕ → SeqVoice → Float → (ℕ → Float) → (ℕ → Float) → ℕ → ℕ → List Float

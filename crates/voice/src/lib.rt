@@ -2,5 +2,4 @@
 mod note; // note.rt: the samples of a note
 mod string; // string.rt: the plucked note, of the period of its first pitch
 
-pub use note::SeqVoice;
 pub use note::voice_note;

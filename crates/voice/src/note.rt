@@ -8,22 +8,10 @@ ghost use Rattle.dsp.specs.SplitMix64.{stateAfter};
 ghost use Rattle.groove.specs.Draws.{drawsOf};
 ghost use Rattle.voice.specs.Voice.{noteFrames};
 use crate::string::pluck_string;
-use dsl::BassKnobs;
-use dsl::FmKnobs;
-use dsl::PianoKnobs;
 use dsl::Pitch;
-use dsl::PluckKnobs;
+use dsl::SeqVoice;
 use dsl::SeqWave;
 use dsp::Rng;
-
-// A wave and its knobs. The knobs of the sets that the wave doesn't use are there too.
-pub struct SeqVoice {
-    pub wave: SeqWave,
-    pub fm: FmKnobs,
-    pub pluck: PluckKnobs,
-    pub piano: PianoKnobs,
-    pub bass: BassKnobs,
-}
 
 // Fills `out`, and hands back the generator after the note's draws. Of `string` only the first 9,600
 // values are used.
@@ -72,7 +60,7 @@ pub fn voice_note(
         SeqWave::Mallet => chimed::mallet_note(pitch, lane, gain, srf, out),
         SeqWave::Bell => chimed::bell_note(pitch, lane, srf, out),
         SeqWave::Bass => struck::bass_note(pitch, lane, voice.bass, gain, srf, out),
-        SeqWave::Cowbell => waves::cowbell(pitch, lane, srf, out),
+        SeqWave::Cowbell => kit::cowbell(pitch, lane, srf, out),
     }
     rng
 }

@@ -13,7 +13,6 @@ use Rattle.dsp.proofs.States.{state-none, state-next}
 use Rattle.waves.specs.Plain.{sawtoothAt, sawtoothFrames, sineAt, sineFrames}
 use Rattle.waves.specs.Pulse.{squareAt, squareFrames, triangleAt, triangleFrames}
 use Rattle.waves.specs.Fm.{fmAt, fmFrames}
-use Rattle.waves.specs.Cowbell.{cowbellAt, cowbellFrames}
 use Rattle.waves.specs.Noise.{noiseAt, noiseEnd}
 
 module _ (f f′ : ℕ → Float) (srf : Float) (n : ℕ) (same : Below f f′ n) where
@@ -36,10 +35,6 @@ module _ (f f′ : ℕ → Float) (srf : Float) (n : ℕ) (same : Below f f′ n
   pub fmSame : (knobs : FmKnobs) (gain : Float) → fmFrames f knobs gain srf n ≡ fmFrames f′ knobs gain srf n
   unfolding fmFrames fmAt
   fmSame knobs gain = samples-same (fmAt f knobs gain srf) (fmAt f′ knobs gain srf) _ _ _ n (λ i h s. ap (λ (y : Float). fmAt (λ j. y) knobs gain srf i s) (same i h))
-
-  pub cowbellSame : cowbellFrames f srf n ≡ cowbellFrames f′ srf n
-  unfolding cowbellFrames cowbellAt
-  cowbellSame = samples-same (λ i (s : ℕ). cowbellAt f srf i) (λ i (s : ℕ). cowbellAt f′ srf i) _ _ 0 n (λ i h s. ap (λ (y : Float). cowbellAt (λ j. y) srf i) (same i h))
 
 -- n frames of noise leave the generator n draws on
 pub noiseDraws : (rng : Rng) (n : ℕ) → rng .0 < 2 ^ 64 → noiseEnd rng n .0 ≡ stateAfter (rng .0) n

@@ -2,4 +2,3 @@ pub mod Plain
 pub mod Pulse
 pub mod Noise
 pub mod Fm
-pub mod Cowbell

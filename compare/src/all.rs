@@ -1,0 +1,88 @@
+//! Every comparison in one run, with one table at the end.
+
+use crate::engine::Count;
+use crate::{helpers, kernels, note_calls, random, score_calls, texts, voices};
+use std::process::{Command, Stdio};
+
+const DAMAGED: &str = concat!(env!("CARGO_MANIFEST_DIR"), "/robust/run");
+/// How many damaged texts go through the host in C.
+const TEXTS: u64 = 10_000_000;
+
+/// One row of the table: what is compared with what, and the run of one case in a number.
+struct Part {
+    name: &'static str,
+    with: &'static str,
+    run: fn(u64) -> Count,
+}
+
+const PARTS: [Part; 7] = [
+    Part {
+        name: "float helpers",
+        with: "Rust's operations",
+        run: helpers::run,
+    },
+    Part {
+        name: "kernels",
+        with: "det.rs",
+        run: |scale| kernels::run_all(kernels::COUNT.div_ceil(scale), scale),
+    },
+    Part {
+        name: "notes of each wave",
+        with: "seq_note_signal",
+        run: |scale| voices::run(voices::COUNT.div_ceil(scale)),
+    },
+    Part {
+        name: "note calls",
+        with: "01's note call",
+        run: |scale| note_calls::run(note_calls::COUNT.div_ceil(scale)),
+    },
+    Part {
+        name: "score calls in lists",
+        with: "01's tally",
+        run: |scale| score_calls::run(score_calls::COUNT.div_ceil(scale)),
+    },
+    Part {
+        name: "text scores",
+        with: "01's text call",
+        run: |scale| texts::run(texts::COUNT.div_ceil(scale)),
+    },
+    Part {
+        name: "damaged texts from C",
+        with: "01's text call",
+        run: |scale| damaged(TEXTS.div_ceil(scale)),
+    },
+];
+
+/// robust/run, whose last line is 'N differ in all'. A run that breaks off counts as all differing.
+fn damaged(count: u64) -> Count {
+    let run = Command::new(DAMAGED)
+        .arg(count.to_string())
+        .stderr(Stdio::inherit())
+        .output();
+    let said = run.map_or(String::new(), |run| {
+        String::from_utf8_lossy(&run.stdout).into_owned()
+    });
+    print!("{said}");
+    let last = said.lines().last().unwrap_or("");
+    let differ = last.strip_suffix(" differ in all");
+    Count {
+        cases: count,
+        differ: differ.and_then(|n| n.parse().ok()).unwrap_or(count),
+    }
+}
+
+/// Compares one case in `scale`; a `seed` that is not 0 makes other random cases.
+pub fn run(scale: u64, seed: u64) -> Count {
+    random::set_run(seed);
+    let counts = PARTS.map(|part| {
+        println!("-- {} against {}", part.name, part.with);
+        (part.run)(scale)
+    });
+    println!("-- one case in {scale}, seed {seed}");
+    println!("| compared | with | cases | differ |");
+    println!("|---|---|---|---|");
+    for (part, Count { cases, differ }) in PARTS.iter().zip(counts) {
+        println!("| {} | {} | {cases} | {differ} |", part.name, part.with);
+    }
+    counts.into_iter().sum::<Count>().printed()
+}

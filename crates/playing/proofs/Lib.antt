@@ -1,0 +1,2 @@
+mod Sounding
+mod Order
