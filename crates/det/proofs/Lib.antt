@@ -4,3 +4,4 @@ pub mod Casts
 pub mod Powers
 pub mod Pattern
 pub mod Differences
+pub mod Quarters

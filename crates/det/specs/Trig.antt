@@ -95,6 +95,10 @@ reduce2pi x =
     let k = roundOf (x ⊗ INV·PI2) in
     x ⊖ k ⊗ PI2·HI ⊖ k ⊗ PI2·MID ⊖ k ⊗ PI2·LO
 
+-- x less k times 2π: the last line of `reduce2pi`
+unfoldable pub lessTurns : Float → Float → Float
+lessTurns x k = x ⊖ k ⊗ PI2·HI ⊖ k ⊗ PI2·MID ⊖ k ⊗ PI2·LO
+
 -- `q.rem_euclid(4)`, the r from 0 to 3 for which q - r is a multiple of 4. For a negative q = -1 - m that is 3 - m % 4.
 unfoldable pub remEuclid4 : ℤ → ℕ
 remEuclid4 (pos n) = n % 4
@@ -112,6 +116,13 @@ quadrant n a =
 unfoldable pub sinOf : Float → Float
 sinOf x =
     let r = reduce2pi x in
+    let q = toSigned 63 (roundOf (r ⊘ FRAC·PI·2)) in
+    let a = r ⊖ ofInt binary64 q ⊗ FRAC·PI·2 in
+    quadrant (remEuclid4 q) a
+
+-- what fn sin makes of its r
+unfoldable pub sinReduced : Float → Float
+sinReduced r =
     let q = toSigned 63 (roundOf (r ⊘ FRAC·PI·2)) in
     let a = r ⊖ ofInt binary64 q ⊗ FRAC·PI·2 in
     quadrant (remEuclid4 q) a

@@ -1,6 +1,7 @@
 // Sine and cosine: the argument is brought near zero, and a polynomial of fdlibm does the rest.
 ghost use mathlib.Core.Path.{_≡_};
-ghost use Rattle.det.specs.Trig.{sinPoly, cosPoly, reduce2pi, remEuclid4, quadrant, sinOf, cosOf};
+ghost use Rattle.ieee.specs.Whole.{roundOf};
+ghost use Rattle.det.specs.Trig.{sinPoly, cosPoly, lessTurns, reduce2pi, remEuclid4, quadrant, sinReduced, sinOf, cosOf};
 use crate::rounded::rounded_again;
 use crate::rounded::rounded_to_i64;
 
@@ -55,12 +56,44 @@ fn cos_poly(x: f64) -> f64
     1.0 - 0.5 * z + z * z * (C1 + z * (C2 + z * (C3 + z * (C4 + z * (C5 + z * C6)))))
 }
 
+// x less k times 2π.
+fn less_turns(x: f64, k: f64) -> f64
+    ensures { λ r. ⌜ r ≡ lessTurns x k ⌝ }
+{
+    ((x - k * PI2_HI) - k * PI2_MID) - k * PI2_LO
+}
+
+// x less the whole number of turns nearest to t. Near zero that number is a constant, and the
+// products with it are worked out by the compiler. A NaN fails every test.
+fn less_nearest(x: f64, t: f64) -> f64
+    ensures { λ r. ⌜ r ≡ lessTurns x (roundOf t) ⌝ }
+{
+    if t < 0.5 {
+        if t > 0.0 {
+            return less_turns(x, 0.0);
+        }
+        let back = -t;
+        if back > 0.0 {
+            if back < 0.5 {
+                return less_turns(x, -0.0);
+            }
+            if back < 1.5 {
+                return less_turns(x, -1.0);
+            }
+        }
+        return less_turns(x, float::round_f64(t));
+    }
+    if t < 1.5 {
+        return less_turns(x, 1.0);
+    }
+    less_turns(x, float::round_f64(t))
+}
+
 // x less the nearest multiple of 2π, for an x that is not too large: within [-π, π].
 fn reduce_2pi(x: f64) -> f64
     ensures { λ r. ⌜ r ≡ reduce2pi x ⌝ }
 {
-    let k = float::round_f64(x * INV_PI2);
-    ((x - k * PI2_HI) - k * PI2_MID) - k * PI2_LO
+    less_nearest(x, x * INV_PI2)
 }
 
 // q.rem_euclid(4). No i64 is negated: -1 - q fits for every negative q.
@@ -85,16 +118,48 @@ fn by_quadrant(n: u64, a: f64) -> f64
     }
 }
 
-// q is the number of quarter turns nearest to r. det.rs writes `q as f64` where this has
-// `rounded_again(k)`, the same number.
-pub fn sin(x: f64) -> f64
-    ensures { λ r. ⌜ r ≡ sinOf x ⌝ }
+// The sine of any r. q is the number of quarter turns nearest to it. det.rs writes `q as f64` where
+// this has `rounded_again(k)`, the same number.
+fn sin_any(r: f64) -> f64
+    ensures { λ s. ⌜ s ≡ sinReduced r ⌝ }
 {
-    let r = reduce_2pi(x);
     let k = float::round_f64(r / FRAC_PI_2);
     let q = rounded_to_i64(k);
     let a = r - rounded_again(k) * FRAC_PI_2;
     by_quadrant(rem_euclid_4(q), a)
+}
+
+// The sine of a reduced r. Up to two quarter turns either way their number is a constant.
+fn sin_reduced(r: f64) -> f64
+    ensures { λ s. ⌜ s ≡ sinReduced r ⌝ }
+{
+    let t = r / FRAC_PI_2;
+    if t < 0.5 {
+        let back = -t;
+        if back < 0.5 {
+            return by_quadrant(0, r - 0.0 * FRAC_PI_2);
+        }
+        if back < 1.5 {
+            return by_quadrant(3, r - -1.0 * FRAC_PI_2);
+        }
+        if back < 2.5 {
+            return by_quadrant(2, r - -2.0 * FRAC_PI_2);
+        }
+        return sin_any(r);
+    }
+    if t < 1.5 {
+        return by_quadrant(1, r - 1.0 * FRAC_PI_2);
+    }
+    if t < 2.5 {
+        return by_quadrant(2, r - 2.0 * FRAC_PI_2);
+    }
+    sin_any(r)
+}
+
+pub fn sin(x: f64) -> f64
+    ensures { λ r. ⌜ r ≡ sinOf x ⌝ }
+{
+    sin_reduced(reduce_2pi(x))
 }
 
 // cos(x) = sin(x + π/2), by the same kernel.

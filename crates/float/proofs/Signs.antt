@@ -14,6 +14,7 @@ use Rattle.laws.proofs.If.{if-true, if-false}
 use Rattle.ieee.specs.Sign.{signOf, absOf}
 use Rattle.ieee.specs.Whole.{whole, cut, raised, floorOf}
 use Rattle.ieee.proofs.Value.{zero-exp}
+use Rattle.ieee.proofs.Between.{neg-neg}
 use Rattle.ieee.proofs.Units.{fits-parts}
 use Rattle.float.proofs.Wholes.{H, H-twice}
 
@@ -37,14 +38,6 @@ neg-whole g (fin true m (pos k)) = refl
 neg-whole g (fin true m (negsuc k)) = neg-odd (size (g m (2 ^ suc k))) true (g m (2 ^ suc k)) 0 0
 neg-whole g (fin false m (pos k)) = refl
 neg-whole g (fin false m (negsuc k)) = neg-odd (size (g m (2 ^ suc k))) false (g m (2 ^ suc k)) 0 0
-
-neg-neg : (x : Float) → neg (neg x) ≡ x
-unfolding neg
-neg-neg nan = refl
-neg-neg (inf true) = refl
-neg-neg (inf false) = refl
-neg-neg (fin true m e) = refl
-neg-neg (fin false m e) = refl
 
 -- ---- from H on every value is whole: one with a fraction would need more than `prec` digits
 digits-lt : (f : Format) (s : Bool) (m : ℕ) (e : ℤ) → T (fits f (fin s m e)) → m < 2 ^ prec f

@@ -14,9 +14,9 @@ use lib.Ieee.Fits.{down-pos, add-fits, sub-fits}
 use lib.Ieee.Exact.{HasValue}
 use lib.Ieee.Nearest.{closest, closest-same}
 use lib.Ieee.Scale.{grid, overflow, round-val}
-use Rattle.ieee.specs.Whole.{whole, exactly, cut, raised, halfUp}
+use Rattle.ieee.specs.Whole.{whole, cut, raised, halfUp}
 use Rattle.ieee.proofs.Value.{value-unique, revalue, add-value, lt-value}
-use Rattle.ieee.proofs.Exactly.{exactly-fits, exactly-value}
+use Rattle.ieee.proofs.Between.{whole-valued, whole-fitted}
 use Rattle.ieee.proofs.Sums.{add-exact, sub-exact}
 use Rattle.ieee.proofs.Digits.{size-at}
 use Rattle.float.specs.Small.{Small}
@@ -128,31 +128,16 @@ module _ (f : Format) (a c : ℕ) (P : 0 < c) (h : a < H f * c) where
 
 -- ---- what has the value of a whole number near x is `whole` of x
 module _ {f : Format} {x : Float} (z : Parts f x) (fit : T (fits f x)) (g : ℕ → ℕ → ℕ) (one : (k : ℕ) → g k 1 ≡ k) where
-  settled : (m : ℕ) (e : ℤ) → T (fits f (fin false m e)) → (y : Float) (k : ℕ) → T (fits f y) → k < 2 ^ prec f → HasValue y false k 1 → k ≡ g (m * up e) (down e) → y ≡ whole g (fin false m e)
-  unfolding whole
-  settled m (pos j) t y k u h v is = value-unique f f y (fin false m (pos j)) false k 1 (zero-lt-suc 0) u t v (refl, ap (λ (i : ℕ). i * 1) (sym (is ∙ one (m * 2 ^ j))))
-  settled m (negsuc j) t y k u h v is =
-      value-unique f f y (exactly false k 0) false k 1 (zero-lt-suc 0) u (exactly-fits f false k 0 h (omega arith)) v (exactly-value false k 0)
-      ∙ ap (λ (i : ℕ). exactly false i 0) (is ∙ ap (λ (i : ℕ). g i (2 ^ suc j)) (mul-one m))
-
-  pub whole-is : (y : Float) (k : ℕ) → T (fits f y) → k < 2 ^ prec f → HasValue y false k 1 → k ≡ g (A z) (C z) → y ≡ whole g x
-  whole-is y k u h v is = settled (z .m) (z .e) (subst (λ (y : Float). T (fits f y)) (z .is) fit) y k u h v is ∙ ap (whole g) (sym (z .is))
-
-  valued : (m : ℕ) (e : ℤ) → HasValue (whole g (fin false m e)) false (g (m * up e) (down e)) 1
-  unfolding whole
-  valued m (pos j) = (refl, ap (λ (i : ℕ). i * 1) (sym (one (m * 2 ^ j))))
-  valued m (negsuc j) = subst (λ (i : ℕ). HasValue (exactly false (g m (2 ^ suc j)) 0) false (g i (2 ^ suc j)) 1) (sym (mul-one m)) (exactly-value false (g m (2 ^ suc j)) 0)
-
-  fitted : (m : ℕ) (e : ℤ) → T (fits f (fin false m e)) → g (m * up e) (down e) < 2 ^ prec f → T (fits f (whole g (fin false m e)))
-  unfolding whole
-  fitted m (pos j) t h = t
-  fitted m (negsuc j) t h = exactly-fits f false (g m (2 ^ suc j)) 0 (subst (λ (i : ℕ). g i (2 ^ suc j) < 2 ^ prec f) (mul-one m) h) (omega arith)
-
   pub whole-fits : g (A z) (C z) < 2 ^ prec f → T (fits f (whole g x))
-  whole-fits h = subst (λ (y : Float). T (fits f (whole g y))) (sym (z .is)) (fitted (z .m) (z .e) (subst (λ (y : Float). T (fits f y)) (z .is) fit) h)
+  whole-fits h = subst (λ (y : Float). T (fits f (whole g y))) (sym (z .is)) (whole-fitted g one f false (z .m) (z .e) (subst (λ (y : Float). T (fits f y)) (z .is) fit) h)
 
   pub whole-value : HasValue (whole g x) false (g (A z) (C z)) 1
-  whole-value = subst (λ (y : Float). HasValue (whole g y) false (g (A z) (C z)) 1) (sym (z .is)) (valued (z .m) (z .e))
+  whole-value = subst (λ (y : Float). HasValue (whole g y) false (g (A z) (C z)) 1) (sym (z .is)) (whole-valued g one false (z .m) (z .e))
+
+  pub whole-is : (y : Float) (k : ℕ) → T (fits f y) → k < 2 ^ prec f → HasValue y false k 1 → k ≡ g (A z) (C z) → y ≡ whole g x
+  whole-is y k u h v is =
+      value-unique f f y (whole g x) false k 1 (zero-lt-suc 0) u (whole-fits (subst (λ (i : ℕ). i < 2 ^ prec f) is h)) v
+      (subst (λ (i : ℕ). HasValue (whole g x) false i 1) (sym is) whole-value)
 
 -- ---- x + H - H
 power : (f : Format) → Float

@@ -14,3 +14,4 @@ pub mod Cut
 pub mod Range
 pub mod Size
 pub mod Quotients
+pub mod Between
