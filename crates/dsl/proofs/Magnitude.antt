@@ -1,17 +1,20 @@
 -- "finite and of magnitude at most 65,536", of each kind of value. Assumes nothing.
-use mathlib.Core.Path.{_≡_, refl, sym, _∙_, subst}
-use Prim.Native.Nat.{ℕ, _*_, _≤_, _<_}
-use native.Mathlib.Nat.{eq-or-lt-of-le, le-of-lt, le-of-eq}
+use mathlib.Core.Path.{_≡_, refl, sym, ap, _∙_, subst}
+use Prim.Native.Nat.{ℕ, _+_, _*_, _≤_, _<_}
+use native.Mathlib.Omega.{arith}
+use native.Mathlib.Nat.{mul-pos, eq-or-lt-of-le, le-of-lt, le-of-eq}
 use mathlib.Core.Logic.{inl, inr}
-use mathlib.Core.Bool.{Bool, true, false, not, _||_, _&&_, false≢true}
+use mathlib.Core.Bool.{Bool, true, false, not, _||_, _&&_, true≢false, false≢true}
 use lib.IntN.{ℤ}
 use lib.Dec.{T, ltb, leb, eqb, eqb-refl, ltb→lt, lt→ltb, leb→le, le→leb, eqb→eq}
-use lib.Ieee.{Float, nan, inf, fin, up, down, le, ofBits, isNan}
+use borrow.Author.Tests.{lt-ltb}
+use lib.Ieee.Fits.{down-pos}
+use lib.Ieee.{Float, nan, inf, fin, up, down, lt, eq, le, neg, ofBits, isNan}
 use Rattle.ieee.specs.Sign.{absOf}
 use Rattle.ieee.proofs.Value.{same-test}
 use Rattle.dsl.specs.declared.pitch.Pitch.{Pitch}
 use Rattle.dsl.specs.declared.pitch.Pitch.the-variants.{Const, Curve}
-use Rattle.dsl.specs.Sized.{sizedOf, pitchSized}
+use Rattle.dsl.specs.Sized.{c65536, sizedOf, pitchSized}
 use Rattle.dsl.specs.Domain.{numeric}
 
 pub sized-nan : sizedOf nan ≡ false
@@ -47,6 +50,36 @@ either-le a b = same-test _ (leb a b) (λ t. le→leb a b (down-le (ltb a b) (eq
 pub sized-fin : (s : Bool) (m : ℕ) (e : ℤ) → sizedOf (fin s m e) ≡ leb (m * up e * 1) (65536 * down e)
 unfolding sizedOf absOf le ofBits
 sized-fin s m e = either-le (m * up e * 1) (65536 * down e)
+
+eqb-sym : (a b : ℕ) → eqb a b ≡ eqb b a
+eqb-sym a b = same-test (eqb a b) (eqb b a) (turned a b) (turned b a)
+  where
+    turned : (a b : ℕ) → T (eqb a b) → T (eqb b a)
+    turned a b t = subst (λ (x : ℕ). T (eqb x a)) (eqb→eq a b t) (eqb-refl a)
+
+-- a negative number, or a zero, against a positive one
+across : (a b : ℕ) (r : Bool) → 0 < a + b → (ltb 0 (a + b) || r) ≡ true
+across a b r h = ap (λ (t : Bool). t || r) (lt-ltb 0 (a + b) h)
+
+some : (e : ℤ) → 0 < 65536 * down e
+some e = mul-pos (omega arith) (down-pos e)
+
+-- one test from each side: at most 65,536, and at least its negative
+pub sized-within : (x : Float) → le x c65536 ≡ true → le (neg c65536) x ≡ sizedOf x
+unfolding sizedOf absOf le lt eq neg ofBits
+sized-within nan h = absurd (false≢true h)
+sized-within (inf true) h = refl
+sized-within (inf false) h = absurd (false≢true h)
+sized-within (fin true m e) h = ap (λ (t : Bool). ltb (m * up e * 1) (65536 * down e) || (t && true)) (eqb-sym (65536 * down e) (m * up e * 1))
+sized-within (fin false m e) h = across (65536 * down e) (m * up e * 1) _ (omega (arith, some e)) ∙ sym h
+
+pub sized-above : (x : Float) → le x c65536 ≡ false → false ≡ sizedOf x
+unfolding sizedOf absOf le lt eq neg ofBits
+sized-above nan h = refl
+sized-above (inf true) h = absurd (true≢false h)
+sized-above (inf false) h = refl
+sized-above (fin true m e) h = absurd (true≢false (sym (across (m * up e * 1) (65536 * down e) _ (omega (arith, some e))) ∙ h))
+sized-above (fin false m e) h = sym h
 
 pub sized-number : (x : Float) → sizedOf x ≡ true → T (not (isNan x))
 unfolding isNan

@@ -2,7 +2,7 @@
 use Prim.Native.Nat.{ℕ, suc, _+_, _≤_, _<_}
 use mathlib.Core.Path.{_≡_, sym, _∙_}
 use mathlib.Core.List.{List}
-use mathlib.Core.Bool.{true, false, cond}
+use mathlib.Core.Bool.{Bool, true, false, cond, _&&_}
 use native.Mathlib.Numerals.{add-one}
 use lib.ListN.{length, drop, getD, drop-of-length-le}
 use lib.Seq.{drop-cons}
@@ -14,12 +14,12 @@ module _ (xs : List Float) (i : ℕ) where
   unfolding allSized
   at-turn h = rw (drop-cons xs i nan)
 
-  pub found : allSized (drop i xs) ≡ allSized xs → i < length xs → sizedOf (getD xs i nan) ≡ false → false ≡ allSized xs
-  found e h s = rw s at (sym (at-turn h)) ∙ e
+  -- `all` says whether those before i are sized, b whether the one at i is
+  pub passed : (all b : Bool) → b ≡ sizedOf (getD xs i nan) → i < length xs → cond all (allSized (drop i xs)) false ≡ allSized xs → cond (all && b) (allSized (drop (i + 1) xs)) false ≡ allSized xs
+  passed true b s h e = rw (add-one, s) (sym (at-turn h) ∙ e)
+  passed false b s h e = e
 
-  pub passed : allSized (drop i xs) ≡ allSized xs → i < length xs → sizedOf (getD xs i nan) ≡ true → allSized (drop (i + 1) xs) ≡ allSized xs
-  passed e h s = rw add-one (rw s at (sym (at-turn h)) ∙ e)
-
-  pub ended : allSized (drop i xs) ≡ allSized xs → length xs ≤ i → true ≡ allSized xs
+  pub ended : (all : Bool) → cond all (allSized (drop i xs)) false ≡ allSized xs → length xs ≤ i → all ≡ allSized xs
   unfolding allSized
-  ended e h = rw (drop-of-length-le xs h) at e
+  ended true e h = rw (drop-of-length-le xs h) at e
+  ended false e h = e

@@ -55,10 +55,18 @@ pub fn saw(phase: f32, dt: f32) -> f32
     (2.0 * phase - 1.0) - poly_blep(phase, dt)
 }
 
-// A phase without its whole part: `phase -= phase.floor()`.
+// A phase without its whole part: `phase -= phase.floor()`. Above 0 and below 2, where an increment
+// leaves most phases, the floor is 0 or 1 by comparisons alone.
 pub fn wrap(phase: f32) -> f32
     ensures { λ r. ⌜ r ≡ wrapped phase ⌝ }
 {
+    if phase < 1.0 {
+        if phase > 0.0 {
+            return phase - 0.0;
+        }
+    } else if phase < 2.0 {
+        return phase - 1.0;
+    }
     phase - float::floor_f32(phase)
 }
 

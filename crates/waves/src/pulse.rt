@@ -2,6 +2,8 @@
 ghost use mathlib.Core.Path.{_≡_};
 ghost use Prim.Native.Nat.{_+_};
 ghost use lib.ListN.{length};
+ghost use lib.Ieee.{binary32};
+ghost use Rattle.ieee.specs.Whole.{fractOf};
 ghost use Rattle.dsl.specs.Pitch.{pitchAt, reaches};
 ghost use Rattle.waves.specs.Pulse.{levelOf, pulseOf, squareAt, squareFrames, triangleAt, triangleFrames};
 use crate::plain::PhaseOut;
@@ -21,6 +23,21 @@ fn pulse(phase: f32, duty: f32, second: f32, dt: f32) -> f32
     level(phase, duty) + osc::poly_blep(phase, dt) - osc::poly_blep(second, dt)
 }
 
+// x less its whole part. Below 2, where a phase and less than a period more lie, that part is 0 or 1
+// by comparisons alone.
+fn fract(x: f32) -> f32
+    ensures { λ r. ⌜ r ≡ fractOf binary32 x ⌝ }
+{
+    if x < 1.0 {
+        if x > 0.0 {
+            return x - 0.0;
+        }
+    } else if x < 2.0 {
+        return x - 1.0;
+    }
+    float::fract_f32(x)
+}
+
 fn square_at(
     pitch: Pitch,
     lane: &[f32],
@@ -37,7 +54,7 @@ fn square_at(
     let dt = osc::phase_step(pitch.at(lane, i), srf);
     let width = float::clamp_f32(duty.at(duties, i), 0.01, 0.99);
     PhaseOut {
-        sample: pulse(phase, width, float::fract_f32(phase - width + 1.0), dt),
+        sample: pulse(phase, width, fract(phase - width + 1.0), dt),
         state: osc::wrap(phase + dt),
     }
 }
@@ -73,7 +90,7 @@ fn triangle_at(pitch: Pitch, lane: &[f32], srf: f32, i: usize, s: TriangleState)
     ensures { λ r. ⌜ r ≡ triangleAt (pitchAt pitch (now (lane .entry))) srf i s ⌝ }
 {
     let dt = osc::phase_step(pitch.at(lane, i), srf);
-    let sq = pulse(s.phase, 0.5, float::fract_f32(s.phase + 0.5), dt);
+    let sq = pulse(s.phase, 0.5, fract(s.phase + 0.5), dt);
     let tri = s.tri * 0.9995 + 4.0 * dt * sq;
     TriangleOut {
         sample: tri,

@@ -1,20 +1,20 @@
--- `dsl::sized::all_sized` meets its contract. The loop's invariant: whether the numbers from i on are all sized is whether all are. Assumes nothing.
+-- `dsl::sized::all_sized` meets its contract. The loop's invariant: whether those passed and those from i on are all sized is whether all are. Assumes nothing.
 use mathlib.Core.Path.{_≡_, refl}
+use mathlib.Core.Bool.{false, cond}
 use native.Mathlib.Omega.{arith}
 use Prim.Native.Nat.{_-_, _≤_}
 use lib.ListN.{length, drop}
 use borrow.Author.Needs.{needs}
-use borrow.Author.Tests.{not-true, not-false}
 use Rattle.dsl.specs.Sized.{allSized}
-use Rattle.dsl.proofs.Sizing.{found, passed, ended}
+use Rattle.dsl.proofs.Sizing.{passed, ended}
 use Rattle.dsl.proofs.sized.all_sized.Statement.{statement}
 use Rattle.dsl.proofs.sized.all_sized.Tie as tie
 
 abbrev Inv-loop : tie.InvT-loop
-Inv-loop xs i₀ i = (allSized (drop i xs) ≡ allSized xs) × (i ≤ length xs)
+Inv-loop xs all₀ i₀ all i = (cond all (allSized (drop i xs)) false ≡ allSized xs) × (i ≤ length xs)
 
 abbrev μ-loop : tie.MeasureT-loop
-μ-loop xs i₀ i = length xs - i
+μ-loop xs all₀ i₀ all i = length xs - i
 
 loop-holds : tie.Need-loop-holds Inv-loop μ-loop
 loop-holds c = (refl, omega arith)
@@ -28,11 +28,6 @@ shared-slice-read-is-sized c = search needs
 is-sized-requires : tie.Need-is-sized-requires Inv-loop μ-loop
 is-sized-requires c κs = search needs
 
-returns : tie.Need-returns Inv-loop μ-loop
-returns c =
-    found (c .before .before .before .before .before .before .args .xs .now) (c .before .before .before .before .loop .i) (c .before .before .before .before .loop .inv .0) (omega arith)
-    (not-true _ (rw (c .before .is-sized .ensures) at (c .if1 .taken)))
-
 add-i : tie.Need-add-i Inv-loop μ-loop
 add-i c = search needs
 
@@ -40,14 +35,12 @@ loop-less : tie.Need-loop-less Inv-loop μ-loop
 loop-less c = omega arith
 
 loop-again : tie.Need-loop-again Inv-loop μ-loop
-loop-again c = (
-  passed (c .before .before .before .before .before .before .args .xs .now) (c .before .before .before .before .loop .i) (c .before .before .before .before .loop .inv .0) (omega arith)
-      (not-false _ (rw (c .before .is-sized .ensures) at (c .if1 .left))),
-  omega arith,
-)
+loop-again c =
+    let at = c .before .before .before .loop in
+    (passed (c .before .before .before .before .before .args .xs .now) (at .i) (at .all) (c .is-sized .result) (c .is-sized .ensures) (omega arith) (at .inv .0), omega arith)
 
-returns-2 : tie.Need-returns-2 Inv-loop μ-loop
-returns-2 c = ended (c .before .before .before .args .xs .now) (c .before .loop .i) (c .before .loop .inv .0) (omega arith)
+returns : tie.Need-returns Inv-loop μ-loop
+returns c = ended (c .before .before .before .args .xs .now) (c .before .loop .i) (c .before .loop .all) (c .before .loop .inv .0) (omega arith)
 
 pub all-sized-spec : {M : Type 1} → statement M
 all-sized-spec =
@@ -59,8 +52,7 @@ all-sized-spec =
     mul-is-sized
     shared-slice-read-is-sized
     is-sized-requires
-    returns
     add-i
     loop-less
     loop-again
-    returns-2)
+    returns)

@@ -1,15 +1,13 @@
 -- `dsl::sized::is_sized` meets its contract. Assumes nothing.
-use borrow.Author.Needs.{needs}
-use Rattle.dsl.specs.Sized.{sizedOf}
+use Rattle.dsl.proofs.Magnitude.{sized-within, sized-above}
 use Rattle.dsl.proofs.sized.is_sized.Statement.{statement}
 use Rattle.dsl.proofs.sized.is_sized.Tie as tie
 
-abs-f32-requires : tie.Need-abs-f32-requires
-abs-f32-requires c κs = search needs
-
 returns : tie.Need-returns
-unfolding sizedOf
-returns c = rw (c .abs-f32 .ensures)
+returns c = sized-within _ (c .if1 .taken)
+
+returns-2 : tie.Need-returns-2
+returns-2 c = sized-above _ (c .if1 .left)
 
 pub is-sized-spec : {M : Type 1} → statement M
-is-sized-spec = tie.close (tie.spec abs-f32-requires returns)
+is-sized-spec = tie.close (tie.spec returns returns-2)

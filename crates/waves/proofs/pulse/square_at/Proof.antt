@@ -16,8 +16,8 @@ at-requires-2 c κs = search needs
 clamp-f32-requires : tie.Need-clamp-f32-requires
 clamp-f32-requires c κs = search needs
 
-fract-f32-requires : tie.Need-fract-f32-requires
-fract-f32-requires c κs = search needs
+fract-requires : tie.Need-fract-requires
+fract-requires c κs = search needs
 
 pulse-requires : tie.Need-pulse-requires
 pulse-requires c κs = search needs
@@ -27,7 +27,7 @@ wrap-requires c κs = search needs
 
 returns : tie.Need-returns
 unfolding squareAt
-returns c = rw (c .wrap .ensures, c .before .pulse .ensures, c .before .before .fract-f32 .ensures, c .before .before .before .clamp-f32 .ensures, c .before .before .before .before .at2 .ensures, c .before .before .before .before .before .phase-step .ensures, c .before .before .before .before .before .before .at .ensures)
+returns c = rw (c .wrap .ensures, c .before .pulse .ensures, c .before .before .fract .ensures, c .before .before .before .clamp-f32 .ensures, c .before .before .before .before .at2 .ensures, c .before .before .before .before .before .phase-step .ensures, c .before .before .before .before .before .before .at .ensures)
 
 pub square-at-spec : {M : Type 1} → statement M
 square-at-spec =
@@ -37,7 +37,7 @@ square-at-spec =
     phase-step-requires
     at-requires-2
     clamp-f32-requires
-    fract-f32-requires
+    fract-requires
     pulse-requires
     wrap-requires
     returns)

@@ -10,8 +10,8 @@ at-requires c κs = search needs
 phase-step-requires : tie.Need-phase-step-requires
 phase-step-requires c κs = search needs
 
-fract-f32-requires : tie.Need-fract-f32-requires
-fract-f32-requires c κs = search needs
+fract-requires : tie.Need-fract-requires
+fract-requires c κs = search needs
 
 pulse-requires : tie.Need-pulse-requires
 pulse-requires c κs = search needs
@@ -21,7 +21,7 @@ wrap-requires c κs = search needs
 
 returns : tie.Need-returns
 unfolding triangleAt
-returns c = rw (c .wrap .ensures, c .before .before .before .pulse .ensures, c .before .before .before .before .fract-f32 .ensures, c .before .before .before .before .before .before .phase-step .ensures, c .before .before .before .before .before .before .before .at .ensures)
+returns c = rw (c .wrap .ensures, c .before .before .before .pulse .ensures, c .before .before .before .before .fract .ensures, c .before .before .before .before .before .before .phase-step .ensures, c .before .before .before .before .before .before .before .at .ensures)
 
 pub triangle-at-spec : {M : Type 1} → statement M
 triangle-at-spec =
@@ -29,7 +29,7 @@ triangle-at-spec =
     (tie.spec
     at-requires
     phase-step-requires
-    fract-f32-requires
+    fract-requires
     pulse-requires
     wrap-requires
     returns)
