@@ -77,10 +77,11 @@ pub fn phase_step(pitch: f32, srf: f32) -> f32
     float::max_f32(pitch, 0.0) / srf
 }
 
-// The time of frame i in seconds. Up to 2^24 frames i is an f32 exactly.
+// The time of frame i in seconds. Up to 2^24 frames i is an f32 exactly; from an i32 a processor
+// converts it in one instruction.
 pub fn frame_time(i: usize, srf: f32) -> f32
     requires { ⌜ i ≤ 16777216 ⌝ }
     ensures { λ r. ⌜ r ≡ seconds srf i ⌝ }
 {
-    (i as f32) / srf
+    ((i as i32) as f32) / srf
 }

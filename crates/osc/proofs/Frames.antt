@@ -1,0 +1,11 @@
+-- The number of a frame as an i32. Assumes nothing.
+use mathlib.Core.Path.{_≡_}
+use Prim.Native.Nat.{ℕ, _≤_}
+use native.Mathlib.Omega.{arith}
+use lib.IntN.{pos}
+use mir.Syntax.{w32}
+use mir.Val.{toZ}
+use mir.Facts.{toZ-ofZ}
+
+pub frame-number : (n : ℕ) → n ≤ 16777216 → toZ w32 n ≡ pos n
+frame-number n h = toZ-ofZ {w = w32} (record { sfits = omega arith })
