@@ -3,7 +3,6 @@
 // and then the text score's bytes, as many as LENGTH says; the reply has REPLY bytes, each a point
 // before the call. The line is written again, with the call's answer and a hash of the whole reply.
 // After a line that starts with `show` the reply follows, and a newline.
-ghost use mathlib.Core.Path.{_≡_};
 ghost use Prim.Native.Nat.{_≤_, _<_};
 ghost use lib.ListN.{length};
 use libc::STDIN_FILENO;
@@ -42,16 +41,9 @@ fn call(line: &[u8], text: &[u8], reply: &mut [u8]) {
     }
 }
 
-// A reply before the call. What it holds is nothing that a proof needs.
-fn points() -> [u8; 33024]
-    ensures { λ r. ⌜ 33024 ≡ length r ⌝ }
-{
-    [b'.'; 33024]
-}
-
 fn replay_case(line: &[u8], text: &[u8]) {
     let n = vectors::length_field(line, 2, MOST_REPLY);
-    let mut space = points();
+    let mut space = [b'.'; 33024];
     call(line, text, &mut space[..n]);
 }
 
@@ -79,14 +71,8 @@ fn replay(input: &[u8]) {
     }
 }
 
-fn input_buffer() -> [u8; 524288]
-    ensures { λ r. ⌜ 524288 ≡ length r ⌝ }
-{
-    [0u8; 524288]
-}
-
 fn main() {
-    let mut input = input_buffer();
+    let mut input = [0u8; 524288];
     let n = io::read_full(STDIN_FILENO, &mut input);
     replay(&input[..n]);
 }
