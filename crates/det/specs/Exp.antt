@@ -69,6 +69,14 @@ expReduced x =
     let y = c1 ⊖ (r ⊗ c ⊘ (c ⊖ c2) ⊖ r) in
     y ⊗ ldexp2Of (toSigned 63 k)
 
+-- what `expReduced` makes of its k
+unfoldable pub expFrom : Float → Float → Float
+expFrom x k =
+    let r = x ⊖ k ⊗ LN2·HI ⊖ k ⊗ LN2·LO in
+    let t = r ⊗ r in
+    let c = r ⊖ t ⊗ (P1 ⊕ t ⊗ (P2 ⊕ t ⊗ (P3 ⊕ t ⊗ (P4 ⊕ t ⊗ P5)))) in
+    (c1 ⊖ (r ⊗ c ⊘ (c ⊖ c2) ⊖ r)) ⊗ ldexp2Of (toSigned 63 k)
+
 -- fn exp
 unfoldable pub expOf : Float → Float
 expOf x =

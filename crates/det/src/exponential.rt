@@ -1,6 +1,8 @@
 // Powers of two and the exponential: e^x = 2^k · e^r with k the whole number nearest to x / ln 2.
 ghost use mathlib.Core.Path.{_≡_};
-ghost use Rattle.det.specs.Exp.{ldexp2Of, expReduced, expOf};
+ghost use lib.Dec.{T};
+ghost use Rattle.det.specs.Exp.{ldexp2Of, expFrom, expReduced, expOf};
+ghost use Rattle.det.specs.Rounded.{noFraction};
 use crate::rounded::rounded_to_i64;
 use crate::special::infinity;
 
@@ -42,15 +44,43 @@ fn ldexp2(k: i64) -> f64
 }
 
 // exp(x) = 2^k · exp(r), with exp(r) = 1 − (r·c/(c − 2) − r) and c = r − r²·P(r²).
-fn exp_reduced(x: f64) -> f64
-    ensures { λ r. ⌜ r ≡ expReduced x ⌝ }
+fn exp_from(x: f64, k: f64) -> f64
+    requires { ⌜ T (noFraction k) ⌝ }
+    ensures { λ r. ⌜ r ≡ expFrom x k ⌝ }
 {
-    let k = float::round_f64(x * INV_LN2);
     let r = (x - k * LN2_HI) - k * LN2_LO;
     let t = r * r;
     let c = r - t * (P1 + t * (P2 + t * (P3 + t * (P4 + t * P5))));
     let y = 1.0 - ((r * c) / (c - 2.0) - r);
     y * ldexp2(rounded_to_i64(k))
+}
+
+// k is x / ln 2, rounded. The sum with 2^52 rounds to the nearest whole number, which is k but at
+// some halves. Those fail the last test and go to `round_f64`. exp(r) can be begun before the test
+// is decided, where it would wait for a choice between n and n + 1.
+fn exp_reduced(x: f64) -> f64
+    ensures { λ r. ⌜ r ≡ expReduced x ⌝ }
+{
+    let t = x * INV_LN2;
+    if t > 0.0 {
+        if t < 4503599627370496.0 {
+            let n = (t + 4503599627370496.0) - 4503599627370496.0;
+            if t < n + 0.5 {
+                return exp_from(x, n);
+            }
+        }
+        return exp_from(x, float::round_f64(t));
+    }
+    let back = -t;
+    if back > 0.0 {
+        if back < 4503599627370496.0 {
+            let n = (back + 4503599627370496.0) - 4503599627370496.0;
+            if back < n + 0.5 {
+                return exp_from(x, -n);
+            }
+        }
+    }
+    exp_from(x, float::round_f64(t))
 }
 
 pub fn exp(x: f64) -> f64

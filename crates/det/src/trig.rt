@@ -64,7 +64,8 @@ fn less_turns(x: f64, k: f64) -> f64
 }
 
 // x less the whole number of turns nearest to t. Near zero that number is a constant, and the
-// products with it are worked out by the compiler. A NaN fails every test.
+// compiler works out the products with it. From 1.5 on it is the nearest whole number n, but at some
+// halves, which fail the last test. A NaN fails every test.
 fn less_nearest(x: f64, t: f64) -> f64
     ensures { λ r. ⌜ r ≡ lessTurns x (roundOf t) ⌝ }
 {
@@ -85,6 +86,14 @@ fn less_nearest(x: f64, t: f64) -> f64
     }
     if t < 1.5 {
         return less_turns(x, 1.0);
+    }
+    if t > 0.0 {
+        if t < 4503599627370496.0 {
+            let n = (t + 4503599627370496.0) - 4503599627370496.0;
+            if t < n + 0.5 {
+                return less_turns(x, n);
+            }
+        }
     }
     less_turns(x, float::round_f64(t))
 }

@@ -1,3 +1,3 @@
 mod Wholes
-mod Signs
+pub mod Signs
 mod Casting

@@ -5,6 +5,7 @@ use mathlib.Core.Path.{ap, _∙_}
 use lib.Dec.{lit<}
 use lib.Ieee.{binary64, ofBits, neg, odd, size}
 use Rattle.ieee.proofs.Between.{near, near-mirrored, near-is}
+use Rattle.float.proofs.Signs.{half-near}
 use Rattle.det.specs.Trig.{lessTurns}
 use Rattle.det.proofs.trig.less_nearest.Statement.{statement}
 use Rattle.det.proofs.trig.less_nearest.Tie as tie
@@ -55,14 +56,24 @@ returns-5 c =
     c .less-turns5 .ensures
     ∙ ap (lessTurns (d .args .x)) (near-is (near 1 (d .args .t) (c .before .before .if1 .left) (c .before .if6 .taken)) binary64 (passes _ (d .good .1 .0 .1)) (lit< tt))
 
-round-f64-requires-2 : tie.Need-round-f64-requires-2
-round-f64-requires-2 c κs = search needs
-
 less-turns-requires-6 : tie.Need-less-turns-requires-6
 less-turns-requires-6 c κs = search needs
 
 returns-6 : tie.Need-returns-6
-returns-6 c = rw (c .less-turns6 .ensures, c .before .round-f642 .ensures)
+unfolding ofBits
+returns-6 c =
+    let d = c .before .before .before .before .before .before in
+    c .less-turns6 .ensures
+    ∙ ap (lessTurns (d .args .x)) (half-near binary64 (d .args .t) (passes _ (d .good .1 .0 .1)) (record { positive = c .before .before .before .if7 .taken; below = c .before .before .if8 .taken }) (c .before .if9 .taken))
+
+round-f64-requires-2 : tie.Need-round-f64-requires-2
+round-f64-requires-2 c κs = search needs
+
+less-turns-requires-7 : tie.Need-less-turns-requires-7
+less-turns-requires-7 c κs = search needs
+
+returns-7 : tie.Need-returns-7
+returns-7 c = rw (c .less-turns7 .ensures, c .before .round-f642 .ensures)
 
 pub less-nearest-spec : {M : Type 1} → statement M
 less-nearest-spec =
@@ -79,6 +90,8 @@ less-nearest-spec =
     returns-4
     less-turns-requires-5
     returns-5
-    round-f64-requires-2
     less-turns-requires-6
-    returns-6)
+    returns-6
+    round-f64-requires-2
+    less-turns-requires-7
+    returns-7)
