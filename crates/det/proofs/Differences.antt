@@ -6,8 +6,8 @@ use lib.IntN.{pos, negsuc}
 use lib.Ieee.{Float, nan, inf, binary64, ofBits, toBits, ofInt, toSigned, isNan, neg, add, sub, mul, div, lt, eq, round, size, units, odd, sum}
 use Rattle.ieee.specs.Whole.{whole}
 use Rattle.det.specs.Constants.{c0, c1, c2}
-use Rattle.det.specs.Trig.{sinPoly, cosPoly, reduce2pi, remEuclid4, quadrant, sinOf}
-use Rattle.det.specs.Exp.{ldexp2Of, expReduced, expOf}
+use Rattle.det.specs.Trig.{sinPoly, cosPoly, lessTurns, reduce2pi, remEuclid4, quadrant, sinReduced, sinOf}
+use Rattle.det.specs.Exp.{ldexp2Of, expFrom, expReduced, expOf}
 use Rattle.det.specs.Ln.{MIN·POSITIVE, lnSeries, lnSplit, lnOf}
 use Rattle.det.specs.Pow.{powfOf}
 use Rattle.det.specs.Tanh.{expm1Small, tanhSigned, tanhOf}
@@ -32,7 +32,7 @@ pub exponentials
     × (expOf (f64 0xc086_2c00_0000_0000) ≡ f64 0x0005_4e90_c99f_b878)
     × (expOf (f64 0xc087_490a_3d70_a3d7) ≡ c0)
     × (expOf (f64 0x4086_2c00_0000_0000) ≡ inf false)
-unfolding expOf expReduced ldexp2Of lt ofBits add sub mul div neg round size units odd sum whole toSigned
+unfolding expOf expFrom expReduced ldexp2Of lt ofBits add sub mul div neg round size units odd sum whole toSigned
 exponentials = (refl, refl, refl, refl)
 
 -- ln of infinity, and of a subnormal at which the factor near 2 ^ 64 moves the last digit
@@ -42,7 +42,7 @@ logarithms = (refl, refl)
 
 -- tanh just below 0.25 and at it
 pub tangents : (tanhOf (f64 0x3fcf_ffff_ffff_ffff) ≡ f64 0x3fcf_597e_a69a_0740) × (tanhOf (f64 0x3fd0_0000_0000_0000) ≡ f64 0x3fcf_597e_a69a_1c88)
-unfolding tanhOf tanhSigned expm1Small expOf expReduced ldexp2Of isNan lt ofBits add sub mul div neg round size units odd sum whole toSigned
+unfolding tanhOf tanhSigned expm1Small expOf expFrom expReduced ldexp2Of isNan lt ofBits add sub mul div neg round size units odd sum whole toSigned
 tangents = (refl, refl)
 
 -- (-8) ^ 2; 1 ^ NaN and 1 ^ ∞; NaN ^ 0; 0 ^ NaN, (-0) ^ -1 and (-0) ^ 3; ∞ ^ 0.1 and ∞ ^ -1
@@ -56,7 +56,7 @@ pub powers-of
     × (powfOf (neg c0) (f64 0x4008_0000_0000_0000) ≡ c0)
     × (powfOf (inf false) (f64 0x3fb9_9999_9999_999a) ≡ f64 0x4655_1cb4_53b9_534d)
     × (powfOf (inf false) (neg c1) ≡ f64 0x0004_0000_0000_001b)
-unfolding powfOf expOf expReduced ldexp2Of lnOf lnSplit lnSeries isNan lt eq ofBits toBits add sub mul div neg round size units odd sum whole toSigned ofInt
+unfolding powfOf expOf expFrom expReduced ldexp2Of lnOf lnSplit lnSeries isNan lt eq ofBits toBits add sub mul div neg round size units odd sum whole toSigned ofInt
 powers-of = (refl, refl, refl, refl, refl, refl, refl, refl, refl)
 
 -- sine of -0, of the f64 nearest to π, of 10 ^ 15 and of 10 ^ 300
@@ -65,5 +65,5 @@ pub sines
     × (sinOf (f64 0x4009_21fb_5444_2d18) ≡ f64 0x3cc0_0000_0000_0000)
     × (sinOf (f64 0x430c_6bf5_2634_0000) ≡ f64 0x3feb_d88a_d103_d8c7)
     × (sinOf (f64 0x7e37_e43c_8800_759c) ≡ inf true)
-unfolding sinOf reduce2pi quadrant remEuclid4 sinPoly cosPoly lt ofBits add sub mul div neg round size units odd sum whole toSigned ofInt
+unfolding sinReduced sinOf lessTurns reduce2pi quadrant remEuclid4 sinPoly cosPoly lt ofBits add sub mul div neg round size units odd sum whole toSigned ofInt
 sines = (refl, refl, refl, refl)

@@ -59,23 +59,18 @@ EXP·MAX = ofBits binary64 0x4086_2e42_fefa_39e6
 abbrev pub EXP·MIN : Float
 EXP·MIN = ofBits binary64 0xc087_4910_d52d_3050
 
--- fn exp, past its two tests
-unfoldable pub expReduced : Float → Float
-expReduced x =
-    let k = roundOf (x ⊗ INV·LN2) in
+-- 2^k · exp(r), r being x less k · ln 2
+unfoldable pub expFrom : Float → Float → Float
+expFrom x k =
     let r = x ⊖ k ⊗ LN2·HI ⊖ k ⊗ LN2·LO in
     let t = r ⊗ r in
     let c = r ⊖ t ⊗ (P1 ⊕ t ⊗ (P2 ⊕ t ⊗ (P3 ⊕ t ⊗ (P4 ⊕ t ⊗ P5)))) in
     let y = c1 ⊖ (r ⊗ c ⊘ (c ⊖ c2) ⊖ r) in
     y ⊗ ldexp2Of (toSigned 63 k)
 
--- what `expReduced` makes of its k
-unfoldable pub expFrom : Float → Float → Float
-expFrom x k =
-    let r = x ⊖ k ⊗ LN2·HI ⊖ k ⊗ LN2·LO in
-    let t = r ⊗ r in
-    let c = r ⊖ t ⊗ (P1 ⊕ t ⊗ (P2 ⊕ t ⊗ (P3 ⊕ t ⊗ (P4 ⊕ t ⊗ P5)))) in
-    (c1 ⊖ (r ⊗ c ⊘ (c ⊖ c2) ⊖ r)) ⊗ ldexp2Of (toSigned 63 k)
+-- fn exp, past its two tests
+unfoldable pub expReduced : Float → Float
+expReduced x = expFrom x (roundOf (x ⊗ INV·LN2))
 
 -- fn exp
 unfoldable pub expOf : Float → Float

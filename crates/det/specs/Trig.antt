@@ -89,15 +89,13 @@ cosPoly x =
     let z = x ⊗ x in
     c1 ⊖ c0·5 ⊗ z ⊕ z ⊗ z ⊗ (C1 ⊕ z ⊗ (C2 ⊕ z ⊗ (C3 ⊕ z ⊗ (C4 ⊕ z ⊗ (C5 ⊕ z ⊗ C6)))))
 
--- fn reduce_2pi: x less a multiple of 2π
-unfoldable pub reduce2pi : Float → Float
-reduce2pi x =
-    let k = roundOf (x ⊗ INV·PI2) in
-    x ⊖ k ⊗ PI2·HI ⊖ k ⊗ PI2·MID ⊖ k ⊗ PI2·LO
-
--- x less k times 2π: the last line of `reduce2pi`
+-- x less k times 2π: the last line of fn reduce_2pi
 unfoldable pub lessTurns : Float → Float → Float
 lessTurns x k = x ⊖ k ⊗ PI2·HI ⊖ k ⊗ PI2·MID ⊖ k ⊗ PI2·LO
+
+-- fn reduce_2pi: x less a multiple of 2π
+unfoldable pub reduce2pi : Float → Float
+reduce2pi x = lessTurns x (roundOf (x ⊗ INV·PI2))
 
 -- `q.rem_euclid(4)`, the r from 0 to 3 for which q - r is a multiple of 4. For a negative q = -1 - m that is 3 - m % 4.
 unfoldable pub remEuclid4 : ℤ → ℕ
@@ -112,20 +110,16 @@ quadrant n a =
     (cond (eqb n 2) (neg (sinPoly a))
     (neg (cosPoly a))))
 
--- fn sin. The cast to i64 is `toSigned 63`, the one back is `ofInt`.
-unfoldable pub sinOf : Float → Float
-sinOf x =
-    let r = reduce2pi x in
-    let q = toSigned 63 (roundOf (r ⊘ FRAC·PI·2)) in
-    let a = r ⊖ ofInt binary64 q ⊗ FRAC·PI·2 in
-    quadrant (remEuclid4 q) a
-
--- what fn sin makes of its r
+-- fn sin below its first line. The cast to i64 is `toSigned 63`, the one back is `ofInt`.
 unfoldable pub sinReduced : Float → Float
 sinReduced r =
     let q = toSigned 63 (roundOf (r ⊘ FRAC·PI·2)) in
     let a = r ⊖ ofInt binary64 q ⊗ FRAC·PI·2 in
     quadrant (remEuclid4 q) a
+
+-- fn sin
+unfoldable pub sinOf : Float → Float
+sinOf x = sinReduced (reduce2pi x)
 
 -- fn cos
 unfoldable pub cosOf : Float → Float

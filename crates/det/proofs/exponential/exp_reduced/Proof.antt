@@ -36,7 +36,7 @@ exp-from-requires : tie.Need-exp-from-requires
 exp-from-requires c κs = subst (λ (k : Float). T (noFraction k)) (sym (above c)) (round-whole _)
 
 returns : tie.Need-returns
-unfolding expReduced expFrom
+unfolding expReduced
 returns c = c .exp-from .ensures ∙ ap (expFrom (c .before .before .before .before .args .x)) (above (c .before))
 
 round-f64-requires : tie.Need-round-f64-requires
@@ -46,14 +46,14 @@ exp-from-requires-2 : tie.Need-exp-from-requires-2
 exp-from-requires-2 c κs = (rw (c .round-f64 .ensures) (round-whole _))
 
 returns-2 : tie.Need-returns-2
-unfolding expReduced expFrom
+unfolding expReduced
 returns-2 c = rw (c .exp-from2 .ensures, c .before .round-f64 .ensures)
 
 exp-from-requires-3 : tie.Need-exp-from-requires-3
 exp-from-requires-3 c κs = subst (λ (k : Float). T (noFraction k)) (sym (below c)) (round-whole _)
 
 returns-3 : tie.Need-returns-3
-unfolding expReduced expFrom
+unfolding expReduced
 returns-3 c = c .exp-from3 .ensures ∙ ap (expFrom (c .before .before .before .before .before .args .x)) (below (c .before))
 
 round-f64-requires-2 : tie.Need-round-f64-requires-2
@@ -63,7 +63,7 @@ exp-from-requires-4 : tie.Need-exp-from-requires-4
 exp-from-requires-4 c κs = (rw (c .round-f642 .ensures) (round-whole _))
 
 returns-4 : tie.Need-returns-4
-unfolding expReduced expFrom
+unfolding expReduced
 returns-4 c = rw (c .exp-from4 .ensures, c .before .round-f642 .ensures)
 
 pub exp-reduced-spec : {M : Type 1} → statement M

@@ -1,6 +1,6 @@
 -- `det::trig::reduce_2pi` meets its contract. Assumes nothing.
 use borrow.Author.Needs.{needs}
-use Rattle.det.specs.Trig.{lessTurns, reduce2pi}
+use Rattle.det.specs.Trig.{reduce2pi}
 use Rattle.det.proofs.trig.reduce_2pi.Statement.{statement}
 use Rattle.det.proofs.trig.reduce_2pi.Tie as tie
 
@@ -8,7 +8,7 @@ less-nearest-requires : tie.Need-less-nearest-requires
 less-nearest-requires c κs = search needs
 
 returns : tie.Need-returns
-unfolding reduce2pi lessTurns
+unfolding reduce2pi
 returns c = c .less-nearest .ensures
 
 pub reduce-2pi-spec : {M : Type 1} → statement M

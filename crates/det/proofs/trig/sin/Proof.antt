@@ -1,6 +1,6 @@
 -- `det::trig::sin` meets its contract. Assumes nothing.
 use borrow.Author.Needs.{needs}
-use Rattle.det.specs.Trig.{sinReduced, sinOf}
+use Rattle.det.specs.Trig.{sinOf}
 use Rattle.det.proofs.trig.sin.Statement.{statement}
 use Rattle.det.proofs.trig.sin.Tie as tie
 
@@ -11,7 +11,7 @@ sin-reduced-requires : tie.Need-sin-reduced-requires
 sin-reduced-requires c κs = search needs
 
 returns : tie.Need-returns
-unfolding sinOf sinReduced
+unfolding sinOf
 returns c = rw (c .sin-reduced .ensures, c .before .reduce-2pi .ensures)
 
 pub sin-spec : {M : Type 1} → statement M
