@@ -181,20 +181,18 @@ fn row(bench: &mut Bench, place: u32, name: &str, wave: SeqWave) -> [f64; 3] {
             || their_score(wave, &notes, FRAMES, TEMPO, 1),
         )
     });
-    print!("{name:9}");
+    print!("| {name} |");
     for [ours, theirs] in [note, one, many] {
-        print!(" {ours:8.2} {theirs:8.2} {:5.2}", ours / theirs);
+        print!(" {ours:.2} | {theirs:.2} | {:.2} |", ours / theirs);
     }
     println!();
     [note, one, many].map(|[ours, theirs]| ours / theirs)
 }
 
+/// Prints a table in Markdown: nanoseconds a sample of a note, library and original, and their ratio.
 pub fn run() {
-    println!("Nanoseconds a sample of a note; {FRAMES} frames at {RATE}. library, original, ratio");
-    println!(
-        "{:9} {:^23} {:^23} {:^23}",
-        "", "note call", "score of one note", "chord of 16"
-    );
+    println!("| wave | note call | original | ratio | score of one note | original | ratio | chord of 16 | original | ratio |");
+    println!("{}|", "|---".repeat(10));
     let mut bench = Bench::new(FRAMES);
     let mut logs = [0.0; 3];
     for (place, name, wave) in WAVES {
@@ -204,5 +202,5 @@ pub fn run() {
         }
     }
     let [note, one, many] = logs.map(|log| (log / WAVES.len() as f64).exp());
-    println!("geometric means of the ratios: {note:.2}, {one:.2}, {many:.2}");
+    println!("| geometric mean | | | {note:.2} | | | {one:.2} | | | {many:.2} |");
 }
