@@ -28,9 +28,10 @@ struct NoiseReached {
     at: usize,
 }
 
-// Fills `out` from its start in turns of four frames, as far as these go. The loop also ends at a turn
-// that leaves the state 0: with a second way out the compiler keeps the 64-bit products one by one,
-// which takes less time than vectors of two, and still converts and stores four frames at once.
+// Fills `out` from its start in turns of four frames, as far as these go. It would also stop at a
+// sample above 1, which there is not: with that second way out of the loop the compiler keeps the
+// 64-bit products one by one, which takes less time than vectors of two, and still converts and stores
+// four frames at once.
 fn noise_fours(rng: Rng, out: &mut [f32]) -> NoiseReached
     ensures { λ r. ⌜ r .at ≤ length (now (out .entry)) ⌝ }
     ensures { λ r. ⌜ r .rng ≡ noiseEnd rng (r .at) ⌝ }
@@ -52,7 +53,7 @@ fn noise_fours(rng: Rng, out: &mut [f32]) -> NoiseReached
         out[i] = d.sample;
         i += 1;
         s = d.state;
-        if s.state() == 0 {
+        if a.sample > 1.0 {
             return NoiseReached { rng: s, at: i };
         }
     }

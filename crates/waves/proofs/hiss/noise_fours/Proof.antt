@@ -69,9 +69,6 @@ slice-write-out-4 c = let h = c .before .before .before .before .before .loop .i
 add-i-4 : tie.Need-add-i-4 Inv-loop μ-loop
 add-i-4 c = let h = c .before .before .before .before .before .loop .inv in omega (arith, h .within, filled-length h)
 
-state-requires : tie.Need-state-requires Inv-loop μ-loop
-state-requires c κs = tt
-
 same-length : tie.Need-same-length Inv-loop μ-loop
 same-length c =
     let h = c .before .before .before .before .before .before .before .before .loop .inv in
@@ -123,7 +120,6 @@ noise-fours-spec =
     mul-out-4
     slice-write-out-4
     add-i-4
-    state-requires
     same-length
     returns
     loop-less
