@@ -1,49 +1,62 @@
--- `waves::hiss::noise` meets its contract: turns of four, then the frames that are left. Assumes nothing.
+-- `waves::hiss::noise` meets its contract: the loop fills `out` by the law `Filled`. Assumes nothing.
+use Prim.Native.Nat.{_-_}
+use mathlib.Core.Path.{refl}
+use native.Mathlib.Omega.{arith}
 use borrow.Author.Needs.{needs}
-use Rattle.waves.proofs.Turns.{rest-end, rest-frames}
+use lib.ListN.{length}
+use Rattle.laws.proofs.Fill.{Filled, filled-none, filled-more, filled-frames, filled-state, filled-length}
+use Rattle.waves.specs.Noise.{noiseAt, noiseFrames, noiseEnd}
 use Rattle.waves.proofs.hiss.noise.Statement.{statement}
 use Rattle.waves.proofs.hiss.noise.Tie as tie
 
-noise-fours-requires : tie.Need-noise-fours-requires
-noise-fours-requires c κs = search needs
+abbrev Inv-loop : tie.InvT-loop
+Inv-loop out₀ s₀ i₀ out s i = Filled ((λ i. noiseAt)) (λ r. r .sample) (λ r. r .state) s₀ out₀ i out s
 
-mul-noise-rest : tie.Need-mul-noise-rest
-mul-noise-rest c = search needs
+abbrev μ-loop : tie.MeasureT-loop
+μ-loop out₀ s₀ i₀ out s i = length out₀ - i
 
-sub-noise-rest : tie.Need-sub-noise-rest
-sub-noise-rest c = search needs
+loop-holds : tie.Need-loop-holds Inv-loop μ-loop
+loop-holds c = filled-none
 
-part-noise-rest-start : tie.Need-part-noise-rest-start
-part-noise-rest-start c = search needs
+noise-at-requires : tie.Need-noise-at-requires Inv-loop μ-loop
+noise-at-requires c κs = tt
 
-part-noise-rest-end : tie.Need-part-noise-rest-end
-part-noise-rest-end c = search needs
+mul-out : tie.Need-mul-out Inv-loop μ-loop
+mul-out c = search needs
 
-noise-rest-requires : tie.Need-noise-rest-requires
-noise-rest-requires c κs = search needs
+slice-write-out : tie.Need-slice-write-out Inv-loop μ-loop
+slice-write-out c = omega (arith, filled-length (c .before .before .loop .inv))
 
-same-length : tie.Need-same-length
-same-length c = search needs
+add-i : tie.Need-add-i Inv-loop μ-loop
+add-i c = search needs
 
-returns : tie.Need-returns
+loop-less : tie.Need-loop-less Inv-loop μ-loop
+loop-less c = omega (arith, filled-length (c .before .before .before .loop .inv))
+
+loop-again : tie.Need-loop-again Inv-loop μ-loop
+loop-again c = filled-more (c .before .before .before .loop .inv) (omega (arith, filled-length (c .before .before .before .loop .inv))) (c .before .noise-at .ensures)
+
+same-length : tie.Need-same-length Inv-loop μ-loop
+same-length c = filled-length (c .before .loop .inv)
+
+returns : tie.Need-returns Inv-loop μ-loop
+unfolding noiseFrames noiseEnd
 returns c =
-    let at = c .before .before .before .before .before .before .before .before .before .before .args in
-    let first = c .before .before .before .before .before .before .before .noise-fours in
-    let k = first .result .at in
-    let mid = first .last .1 .0 in
-    let r = first .ensures in
-    let rest = c .before .before .noise-rest in
-    (rest-end (at .rng) k (at .out .now) mid (first .result .rng) (r .0) (r .1 .0) (r .1 .1) _ (rest .ensures .0), rest-frames (at .rng) k (at .out .now) mid (first .result .rng) (r .0) (r .1 .0) (r .1 .1) _ (rest .ensures .1))
+    let inv = c .before .loop .inv in
+    (filled-state inv (omega (arith, filled-length inv)) refl, filled-frames inv (omega (arith, filled-length inv)) refl)
 
 pub noise-spec : {M : Type 1} → statement M
 noise-spec =
     tie.close
     (tie.spec
-    noise-fours-requires
-    mul-noise-rest
-    sub-noise-rest
-    part-noise-rest-start
-    part-noise-rest-end
-    noise-rest-requires
+    Inv-loop
+    μ-loop
+    loop-holds
+    noise-at-requires
+    mul-out
+    slice-write-out
+    add-i
+    loop-less
+    loop-again
     same-length
     returns)
