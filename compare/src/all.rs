@@ -5,8 +5,8 @@ use crate::{helpers, kernels, note_calls, random, score_calls, texts, voices};
 use std::process::{Command, Stdio};
 
 const DAMAGED: &str = concat!(env!("CARGO_MANIFEST_DIR"), "/robust/run");
-/// How many damaged texts go through the host in C.
-const TEXTS: u64 = 10_000_000;
+/// How many damaged texts go through the host in C; `robust/run` alone tries ten times as many.
+const TEXTS: u64 = 1_000_000;
 
 /// One row of the table: what is compared with what, and the run of one case in a number.
 struct Part {
