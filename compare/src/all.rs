@@ -8,49 +8,29 @@ const DAMAGED: &str = concat!(env!("CARGO_MANIFEST_DIR"), "/robust/run");
 /// How many damaged texts go through the host in C; `robust/run` alone tries ten times as many.
 const TEXTS: u64 = 1_000_000;
 
-/// One row of the table: what is compared with what, and the run of one case in a number.
-struct Part {
-    name: &'static str,
-    with: &'static str,
-    run: fn(u64) -> Count,
-}
+/// One row of the table: what is compared, with what, and the run of one case in a number.
+type Part = (&'static str, &'static str, fn(u64) -> Count);
 
 const PARTS: [Part; 7] = [
-    Part {
-        name: "float helpers",
-        with: "Rust's operations",
-        run: helpers::run,
-    },
-    Part {
-        name: "kernels",
-        with: "det.rs",
-        run: |scale| kernels::run_all(kernels::COUNT.div_ceil(scale), scale),
-    },
-    Part {
-        name: "notes of each wave",
-        with: "seq_note_signal",
-        run: |scale| voices::run(voices::COUNT.div_ceil(scale)),
-    },
-    Part {
-        name: "note calls",
-        with: "01's note call",
-        run: |scale| note_calls::run(note_calls::COUNT.div_ceil(scale)),
-    },
-    Part {
-        name: "score calls in lists",
-        with: "01's tally",
-        run: |scale| score_calls::run(score_calls::COUNT.div_ceil(scale)),
-    },
-    Part {
-        name: "text scores",
-        with: "01's text call",
-        run: |scale| texts::run(texts::COUNT.div_ceil(scale)),
-    },
-    Part {
-        name: "damaged texts from C",
-        with: "01's text call",
-        run: |scale| damaged(TEXTS.div_ceil(scale)),
-    },
+    ("float helpers", "Rust's operations", helpers::run),
+    ("kernels", "det.rs", |scale| {
+        kernels::run_all(kernels::COUNT.div_ceil(scale), scale)
+    }),
+    ("notes of each wave", "seq_note_signal", |scale| {
+        voices::run(voices::COUNT.div_ceil(scale))
+    }),
+    ("note calls", "01's note call", |scale| {
+        note_calls::run(note_calls::COUNT.div_ceil(scale))
+    }),
+    ("score calls in lists", "01's tally", |scale| {
+        score_calls::run(score_calls::COUNT.div_ceil(scale))
+    }),
+    ("text scores", "01's text call", |scale| {
+        texts::run(texts::COUNT.div_ceil(scale))
+    }),
+    ("damaged texts from C", "01's text call", |scale| {
+        damaged(TEXTS.div_ceil(scale))
+    }),
 ];
 
 /// robust/run, whose last line is 'N differ in all'. A run that breaks off counts as all differing.
@@ -74,15 +54,15 @@ fn damaged(count: u64) -> Count {
 /// Compares one case in `scale`; a `seed` that is not 0 makes other random cases.
 pub fn run(scale: u64, seed: u64) -> Count {
     random::set_run(seed);
-    let counts = PARTS.map(|part| {
-        println!("-- {} against {}", part.name, part.with);
-        (part.run)(scale)
+    let counts = PARTS.map(|(name, with, run)| {
+        println!("-- {name} against {with}");
+        run(scale)
     });
     println!("-- one case in {scale}, seed {seed}");
     println!("| compared | with | cases | differ |");
     println!("|---|---|---|---|");
-    for (part, Count { cases, differ }) in PARTS.iter().zip(counts) {
-        println!("| {} | {} | {cases} | {differ} |", part.name, part.with);
+    for ((name, with, _), Count { cases, differ }) in PARTS.iter().zip(counts) {
+        println!("| {name} | {with} | {cases} | {differ} |");
     }
     counts.into_iter().sum::<Count>().printed()
 }
