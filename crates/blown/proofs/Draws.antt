@@ -3,9 +3,9 @@ use Prim.Native.Nat.{ℕ, zero, suc, _^_, _<_}
 use mathlib.Core.Path.{_≡_, refl, ap, _∙_}
 use lib.Ieee.{Float}
 use Rattle.laws.specs.Run.{stateAt, iterate}
-use Rattle.dsp.specs.SplitMix64.{advance, stateAfter}
-use Rattle.dsp.specs.declared.rng.Rng.{Rng}
-use Rattle.dsp.proofs.States.{draws-leave}
+use Rattle.rng.specs.SplitMix64.{advance, stateAfter}
+use Rattle.rng.specs.declared.Rng.{Rng}
+use Rattle.rng.proofs.States.{draws-leave}
 use Rattle.blown.specs.Flute.{fluteAt, fluteEnd}
 
 module _ (f : ℕ → Float) (gain srf : Float) (rng : Rng) where

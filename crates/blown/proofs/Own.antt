@@ -3,7 +3,7 @@ use Prim.Native.Nat.{ℕ}
 use mathlib.Core.Path.{_≡_, ap}
 use lib.Ieee.{Float}
 use Rattle.laws.proofs.Same.{Below, samples-same, state-same}
-use Rattle.dsp.specs.declared.rng.Rng.{Rng}
+use Rattle.rng.specs.declared.Rng.{Rng}
 use Rattle.blown.specs.declared.flute.FluteState.{FluteState}
 use Rattle.blown.specs.Brass.{brassAt, brassStart, brassFrames}
 use Rattle.blown.specs.Flute.{fluteLowpass, fluteAt, fluteStart, fluteFrames, fluteEnd}

@@ -7,10 +7,10 @@ use Rattle.laws.specs.Run.{samples, stateAt}
 use Rattle.ieee.specs.Binary32.{_⊕_, _⊖_, _⊗_, _⊘_}
 use Rattle.ieee.specs.Order.{maxOf}
 use Rattle.dsp.specs.Kernels.{TAU, sinOf, expOf}
-use Rattle.dsp.specs.SplitMix64.{advance}
-use Rattle.dsp.specs.Draw.{biFrom}
+use Rattle.rng.specs.SplitMix64.{advance}
+use Rattle.rng.specs.Draw.{biFrom}
 use Rattle.osc.specs.Phase.{wrapped, seconds}
-use Rattle.dsp.specs.declared.rng.Rng.{Rng}
+use Rattle.rng.specs.declared.Rng.{Rng}
 use Rattle.blown.specs.declared.flute.FluteState.{FluteState}
 use Rattle.blown.specs.declared.flute.FluteOut.{FluteOut}
 

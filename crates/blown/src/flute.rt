@@ -6,7 +6,7 @@ ghost use lib.ListN.{length};
 ghost use Rattle.dsl.specs.Pitch.{pitchAt, reaches};
 ghost use Rattle.blown.specs.Flute.{fluteAt, fluteFrames, fluteEnd};
 use dsl::Pitch;
-use dsp::Rng;
+use rng::Rng;
 
 // The phases of the tone and of the vibrato, the breath filter's memory, and the generator.
 pub struct FluteState {

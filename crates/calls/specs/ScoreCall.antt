@@ -4,7 +4,7 @@ use mathlib.Core.Path.{_≡_}
 use mathlib.Core.List.{List}
 use lib.ListN.{length, drop}
 use lib.Ieee.{Float}
-use Rattle.dsp.specs.SplitMix64.{stateAfter}
+use Rattle.rng.specs.SplitMix64.{stateAfter}
 use Rattle.outcome.specs.Answer.{Result, refused, accepted, unless, seen, outAfter, free}
 use Rattle.score.specs.Score.{Score, scoreOf, scoreDraws}
 use Rattle.calls.specs.Frames.{scoreFrames}

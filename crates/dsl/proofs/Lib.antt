@@ -2,3 +2,4 @@ pub mod Places
 pub mod Sizing
 pub mod Magnitude
 pub mod Reach
+pub mod Exact

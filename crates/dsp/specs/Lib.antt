@@ -1,3 +1,1 @@
-pub mod SplitMix64
-pub mod Draw
 pub mod Kernels

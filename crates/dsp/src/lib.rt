@@ -1,15 +1,42 @@
-// dsp.rs: the generator, and the kernels under the names that the voices call.
-mod kernels; // kernels.rt: sin, cos, exp, powf, tanh, one_pole
-mod rng; // rng.rt: SplitMix64
+// dsp.rs: the kernels of `det` at f32, under the names that the voices call, and `one_pole`.
+ghost use mathlib.Core.Path.{_≡_};
+ghost use Rattle.dsp.specs.Kernels.{sinOf, cosOf, expOf, powfOf, tanhOf, onePole};
 
-pub use kernels::TAU;
-pub use kernels::cos;
-pub use kernels::exp;
-pub use kernels::one_pole;
-pub use kernels::powf;
-pub use kernels::sin;
-pub use kernels::tanh;
-pub use rng::DrawF32;
-pub use rng::DrawU64;
-pub use rng::Rng;
-pub use rng::splitmix_mix;
+pub const TAU: f32 = 6.28318530717958647692528676655900577; // 40c90fdb
+
+pub fn sin(x: f32) -> f32
+    ensures { λ r. ⌜ r ≡ sinOf x ⌝ }
+{
+    det::sinf(x)
+}
+
+pub fn cos(x: f32) -> f32
+    ensures { λ r. ⌜ r ≡ cosOf x ⌝ }
+{
+    det::cosf(x)
+}
+
+pub fn exp(x: f32) -> f32
+    ensures { λ r. ⌜ r ≡ expOf x ⌝ }
+{
+    det::expf(x)
+}
+
+pub fn powf(x: f32, y: f32) -> f32
+    ensures { λ r. ⌜ r ≡ powfOf x y ⌝ }
+{
+    det::powff(x, y)
+}
+
+pub fn tanh(x: f32) -> f32
+    ensures { λ r. ⌜ r ≡ tanhOf x ⌝ }
+{
+    det::tanhf(x)
+}
+
+// What a level is multiplied by each frame to decay with a time constant of `secs` at rate sr.
+pub fn one_pole(secs: f32, sr: f32) -> f32
+    ensures { λ r. ⌜ r ≡ onePole secs sr ⌝ }
+{
+    exp(-1.0 / (secs * sr))
+}

@@ -8,7 +8,7 @@ use lib.Ieee.{Float, fin, binary32, ofBits, ofInt, toUnsigned, round, sum, odd, 
 use Rattle.ieee.specs.Numbers.{c0, c1}
 use Rattle.ieee.specs.Narrow.{narrowOf}
 use Rattle.ieee.specs.Whole.{whole, roundOf}
-use Rattle.dsp.specs.Draw.{biOf}
+use Rattle.rng.specs.Draw.{biOf}
 use Rattle.osc.specs.Osc.{polyBlep}
 use Rattle.dsl.specs.declared.wave.SeqWave.the-variants.{Piano}
 use Rattle.dsl.specs.declared.pitch.Pitch.the-variants.{Const}
@@ -16,8 +16,8 @@ use Rattle.dsl.specs.declared.note.SeqNote.{SeqNote}
 use Rattle.dsl.specs.Sized.{c65536}
 use Rattle.groove.specs.Timing.{stepDur, swingDelay, humanOf, grooveOf}
 use Rattle.groove.specs.Length.{lengthOf}
-use Rattle.groove.specs.Period.{periodOf}
-use Rattle.groove.specs.Draws.{drawsOf}
+use Rattle.counts.specs.Period.{periodOf}
+use Rattle.counts.specs.Draws.{drawsOf}
 
 -- 120
 abbrev c120 : Float

@@ -5,9 +5,9 @@ ghost use Rattle.ieee.specs.Narrow.{narrowOf};
 ghost use Rattle.ieee.specs.Root.{sqrtOf};
 ghost use Rattle.ieee.specs.Sign.{absOf};
 ghost use Rattle.ieee.specs.Whole.{floorOf, truncOf, roundOf, fractOf};
-ghost use Rattle.dsp.specs.SplitMix64.{next};
-ghost use Rattle.dsp.specs.Draw.{biFrom};
-use dsp::Rng;
+ghost use Rattle.rng.specs.SplitMix64.{next};
+ghost use Rattle.rng.specs.Draw.{biFrom};
+use rng::Rng;
 
 #[no_mangle]
 pub extern "C" fn h_narrow(x: f64) -> f32

@@ -1,4 +1,4 @@
--- What the score call leans on: a note's frames lie within the output, a curve's last place is a number of 33 bits, and a note's draws are few. Assumes nothing.
+-- What the score call leans on: a note's frames lie within the output, and a curve's last place is a number of 33 bits. Assumes nothing.
 use mathlib.Core.Path.{_≡_, refl}
 use Prim.Native.Nat.{ℕ, _+_, _^_, _≤_, _<_, max}
 use native.Mathlib.Omega.{arith}
@@ -7,15 +7,11 @@ use lib.Ieee.{Float, lt, toUnsigned}
 use Rattle.ieee.specs.Numbers.{f32}
 use Rattle.ieee.specs.Binary32.{_⊗_}
 use Rattle.ieee.specs.Order.{minOf}
-use Rattle.dsl.specs.declared.wave.SeqWave.{SeqWave}
-use Rattle.dsl.specs.declared.wave.SeqWave.the-variants.{Square, Triangle, Sawtooth, Sine, Noise, Fm, Pluck, Piano, Epiano, Organ, Strings, Brass, Flute, Mallet, Bell, Bass, Cowbell}
-use Rattle.dsl.specs.Domain.{Rate, Frames}
+use Rattle.dsl.specs.Domain.{Frames}
 use Rattle.groove.specs.Length.{lengthOf, soundedOf}
-use Rattle.groove.specs.Draws.{drawsOf}
 use Rattle.ieee.proofs.Bounds.{AtMost, value-at-most, lt-at-most}
 use Rattle.ieee.proofs.Cut.{cut-at-most}
-use Rattle.groove.proofs.Exact.{frames-value}
-use Rattle.groove.proofs.Periods.{period-fits}
+use Rattle.dsl.proofs.Exact.{frames-value}
 
 -- ---- a note's length
 module _ (len : ℕ) (dur : Float) (n : ℕ) where
@@ -60,24 +56,3 @@ module _ (n start length : ℕ) where
 
   pub sounded-none : n ≤ start → soundedOf n start length ≡ 0
   sounded-none h = omega arith
-
--- ---- a note's draws
-pub draws-most : (wave : SeqWave) (rate : ℕ) → Rate rate → (first : Float) (frames : ℕ) → drawsOf wave rate first frames ≤ max frames 9600
-unfolding drawsOf
-draws-most Square rate r first frames = omega arith
-draws-most Triangle rate r first frames = omega arith
-draws-most Sawtooth rate r first frames = omega arith
-draws-most Sine rate r first frames = omega arith
-draws-most Noise rate r first frames = omega arith
-draws-most Fm rate r first frames = omega arith
-draws-most Pluck rate r first frames = omega (arith, period-fits rate r first)
-draws-most Piano rate r first frames = omega arith
-draws-most Epiano rate r first frames = omega arith
-draws-most Organ rate r first frames = omega arith
-draws-most Strings rate r first frames = omega arith
-draws-most Brass rate r first frames = omega arith
-draws-most Flute rate r first frames = omega arith
-draws-most Mallet rate r first frames = omega arith
-draws-most Bell rate r first frames = omega arith
-draws-most Bass rate r first frames = omega arith
-draws-most Cowbell rate r first frames = omega arith

@@ -17,17 +17,17 @@ use Rattle.ieee.specs.Binary32.{_⊕_, _⊗_}
 use Rattle.ieee.proofs.Bounds.{le-at-most}
 use Rattle.ieee.proofs.Range.{Between}
 use Rattle.ieee.proofs.Size.{Within, value-within, mul-within, add-within, cond-within, cut-within}
-use Rattle.dsp.specs.SplitMix64.{next}
-use Rattle.dsp.specs.Draw.{biOf}
-use Rattle.dsp.proofs.States.{top-lt}
-use Rattle.dsp.proofs.Draws.{bi-low, bi-high}
+use Rattle.rng.specs.SplitMix64.{next}
+use Rattle.rng.specs.Draw.{biOf}
+use Rattle.rng.proofs.States.{top-lt}
+use Rattle.rng.proofs.Draws.{bi-low, bi-high}
 use Rattle.dsl.specs.Domain.{Frames}
 use Rattle.dsl.specs.declared.note.SeqNote.{SeqNote}
 use Rattle.groove.specs.declared.timing.Human.{Human}
 use Rattle.groove.specs.Humanize.{seedOf, humanizeDraws}
 use Rattle.groove.specs.Timing.{swingDelay, humanOf, grooveOf}
 use Rattle.groove.specs.Length.{lengthOf}
-use Rattle.groove.proofs.Exact.{step-value}
+use Rattle.dsl.proofs.Exact.{step-value}
 use Rattle.groove.proofs.Room.{length-most}
 
 -- ---- bounds that are f32 values

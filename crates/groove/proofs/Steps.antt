@@ -17,7 +17,7 @@ use Rattle.ieee.proofs.Range.{Between, between, div-at-most, div-at-least}
 use Rattle.dsl.specs.Domain.{Rate}
 use Rattle.groove.specs.Number.{c60, c1000}
 use Rattle.groove.specs.Timing.{stepDur}
-use Rattle.groove.proofs.Exact.{f32-value, rate-value}
+use Rattle.dsl.proofs.Exact.{f32-value, rate-value}
 
 c1-value : HasValue c1 false 1 1
 unfolding ofBits

@@ -3,8 +3,8 @@ use Prim.Native.Nat.{ℕ, _*_, _^_}
 use lib.Bits.{bitXor}
 use lib.Ieee.{binary32, toBits}
 use Rattle.word.specs.Rotate.{rotated}
-use Rattle.dsp.specs.SplitMix64.{advance}
-use Rattle.dsp.specs.Draw.{biFrom}
+use Rattle.rng.specs.SplitMix64.{advance}
+use Rattle.rng.specs.Draw.{biFrom}
 use Rattle.dsl.specs.declared.pitch.Pitch.{Pitch}
 use Rattle.dsl.specs.declared.pitch.Pitch.the-variants.{Const, Curve}
 use Rattle.dsl.specs.declared.note.SeqNote.{SeqNote}

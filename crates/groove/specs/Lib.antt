@@ -2,5 +2,3 @@ pub mod Number
 pub mod Humanize
 pub mod Timing
 pub mod Length
-pub mod Period
-pub mod Draws

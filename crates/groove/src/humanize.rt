@@ -4,7 +4,7 @@ ghost use Rattle.dsl.specs.Domain.{numeric};
 ghost use Rattle.groove.specs.Humanize.{identityOf, seedOf, humanizeDraws};
 use dsl::Pitch;
 use dsl::SeqNote;
-use dsp::Rng;
+use rng::Rng;
 
 // Keeps the generator apart from those that a score's seed gives.
 const HUMANIZE_SEED_SALT: u64 = 0x6A09_E667;

@@ -2,8 +2,8 @@
 ghost use Rattle.harness.specs.Note.{NoteExported};
 use crate::knobs::VoiceAt;
 use crate::knobs::voice_at;
-use dsp::Rng;
 use outcome::Outcome;
+use rng::Rng;
 
 // 0 where the call is accepted, else the refusal's number. `state` is the generator's, and changes
 // only with an accepted call; `draws` gets the draws made, 0 for a refusal. Where there is no such wave

@@ -4,8 +4,8 @@ use crate::knobs::EnvAt;
 use crate::knobs::VoiceAt;
 use crate::knobs::env_at;
 use crate::knobs::voice_at;
-use dsp::Rng;
 use outcome::Outcome;
+use rng::Rng;
 use score::Seq;
 use session::Session;
 

@@ -7,7 +7,7 @@ use Rattle.laws.specs.Update.{updated}
 use Rattle.ieee.specs.Numbers.{c0}
 use Rattle.ieee.specs.Binary32.{_⊕_, _⊗_}
 use Rattle.dsl.specs.declared.knobs.Adsr.{Adsr}
-use Rattle.mix.specs.Envelope.{adsrAt}
+use Rattle.envelope.specs.Envelope.{adsrAt}
 
 -- n plus zeros
 unfoldable pub silence : ℕ → List Float

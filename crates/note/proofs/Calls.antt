@@ -9,18 +9,19 @@ use borrow.Author.Tests.{ltb-false, eqb-false, eqb-true, not-false}
 use lib.ListN.{length, drop, getD}
 use lib.Dec.{ltb, eqb}
 use lib.Ieee.{Float, nan}
-use Rattle.dsp.specs.SplitMix64.{stateAfter}
-use Rattle.dsp.specs.declared.rng.Rng.{Rng}
+use Rattle.rng.specs.SplitMix64.{stateAfter}
+use Rattle.rng.specs.declared.Rng.{Rng}
 use Rattle.dsl.specs.Domain.{Rate}
 use Rattle.dsl.specs.Sized.{sizedOf, allSized}
 use Rattle.dsl.specs.Knobs.{knobList}
 use Rattle.dsl.specs.Pitch.{pitchAt}
 use Rattle.dsl.specs.declared.pitch.Pitch.the-variants.{Curve}
-use Rattle.groove.specs.Draws.{drawsOf}
+use Rattle.counts.specs.Draws.{drawsOf}
 use Rattle.voice.specs.Voice.{noteFrames}
 use Rattle.dsl.specs.declared.knobs.SeqVoice.{SeqVoice}
 use Rattle.outcome.specs.Answer.{numberOf, Result, refused, accepted, unless, seen, outAfter, free}
-use Rattle.note.specs.NoteCall.{NoteEvent, Voiced, valuesRefusal, noteCallRefusal, noteResultOf, noteResultIn, rngAfter}
+use Rattle.note_refusals.specs.NoteRefusals.{valuesRefusal, noteCallRefusal}
+use Rattle.note.specs.NoteCall.{NoteEvent, Voiced, noteResultOf, noteResultIn, rngAfter}
 use Rattle.note.specs.declared.answer.NoteAnswer.{NoteAnswer}
 use Rattle.outcome.specs.declared.answer.Outcome.the-variants.{Played, Refused}
 use Rattle.outcome.specs.declared.answer.Refusal.{Refusal}

@@ -1,6 +1,6 @@
 // What a note call answers.
-use dsp::Rng;
 use outcome::Outcome;
+use rng::Rng;
 
 // A note call's answer, and the generator after it.
 pub struct NoteAnswer {

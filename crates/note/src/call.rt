@@ -1,12 +1,12 @@
 // The note call.
 ghost use Rattle.note.specs.NoteCall.{Voiced};
 use crate::answer::NoteAnswer;
-use crate::verdict::note_call_verdict;
 use dsl::Pitch;
 use dsl::SeqVoice;
-use dsp::Rng;
+use note_refusals::note_call_verdict;
 use outcome::Outcome;
 use outcome::Verdict;
+use rng::Rng;
 
 // Fills `out` with a note whose pitch and duty at each frame are those of `pitch` and `duty`, and
 // answers how many draws it made. Of `string` an accepted call uses the first 9,600 values; a refused
@@ -44,7 +44,7 @@ pub fn seq_note_signal(
         };
     }
     let wave = voice.wave;
-    let e = groove::draw_count(wave, rate, pitch[0], n);
+    let e = counts::draw_count(wave, rate, pitch[0], n);
     let curve = Pitch::Curve(0);
     let after = voice::voice_note(
         rng,

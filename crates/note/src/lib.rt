@@ -2,7 +2,6 @@
 // hands back.
 mod answer; // answer.rt: what it answers
 mod call; // call.rt: the note call
-mod verdict; // verdict.rt: its refusals, in their order
 
 pub use answer::NoteAnswer;
 pub use call::seq_note_signal;

@@ -7,8 +7,8 @@ use native.Mathlib.Nat.{zero-add}
 use native.Mathlib.Numerals.{add-one}
 use lib.ListN.{length, drop}
 use lib.Ieee.{Float}
-use Rattle.dsp.specs.SplitMix64.{stateAfter}
-use Rattle.dsp.proofs.States.{state-add, state-none}
+use Rattle.rng.specs.SplitMix64.{stateAfter}
+use Rattle.rng.proofs.States.{state-add, state-none}
 use Rattle.mix.specs.Mix.{silence}
 use Rattle.score.specs.Score.{Score, noteAt, count, noteDraws, drawsBefore, scoreDraws}
 use Rattle.calls.specs.Frames.{withNote, framesAfter, scoreFrames}

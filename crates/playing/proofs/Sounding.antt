@@ -5,14 +5,14 @@ use mathlib.Core.List.{List}
 use borrow.Author.Tests.{lt-leb}
 use lib.ListN.{length}
 use lib.Ieee.{Float}
-use Rattle.dsp.specs.SplitMix64.{stateAfter}
-use Rattle.dsp.proofs.States.{state-none}
+use Rattle.rng.specs.SplitMix64.{stateAfter}
+use Rattle.rng.proofs.States.{state-none}
 use Rattle.dsl.specs.Domain.{Frames}
 use Rattle.dsl.specs.Pitch.{pitchAt, reaches}
 use Rattle.dsl.specs.declared.note.SeqNote.{SeqNote}
 use Rattle.dsl.specs.declared.note.Decoded.{Decoded}
 use Rattle.dsl.specs.declared.note.Decoded.the-variants.{Note}
-use Rattle.groove.specs.Draws.{drawsOf}
+use Rattle.counts.specs.Draws.{drawsOf}
 use Rattle.voice.specs.Voice.{noteFrames}
 use Rattle.mix.specs.Mix.{mixedAt}
 use Rattle.score.specs.Score.{Score, place, noteDraws}

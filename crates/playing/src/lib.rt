@@ -2,13 +2,13 @@
 ghost use mathlib.Core.Path.{_≡_};
 ghost use Prim.Native.Nat.{_/_, _≤_, _<_};
 ghost use lib.ListN.{length, drop};
-ghost use Rattle.dsp.specs.SplitMix64.{stateAfter};
+ghost use Rattle.rng.specs.SplitMix64.{stateAfter};
 ghost use Rattle.dsl.specs.Domain.{Rate, Frames};
 ghost use Rattle.score.specs.Score.{scoreOf, noteAt, noteDraws, scoreDraws};
 ghost use Rattle.calls.specs.Frames.{withNote, scoreFrames};
 ghost use Rattle.score.specs.Refusals.{Clean};
 use dsl::Decoded;
-use dsp::Rng;
+use rng::Rng;
 use score::Seq;
 
 // Note k: nothing where it is skipped.

@@ -5,7 +5,7 @@ use mathlib.Core.List.{List, _++_}
 use lib.ListN.{length, take, drop}
 use lib.Seq.{length-take-le, take-at, drop-at}
 use lib.Ieee.{Float}
-use Rattle.dsp.specs.SplitMix64.{stateAfter}
+use Rattle.rng.specs.SplitMix64.{stateAfter}
 use Rattle.plucked.specs.Noise.{noise}
 use Rattle.plucked.specs.Guitar.{timbreOf}
 use Rattle.plucked.specs.Pluck.{ringFrames, ringAfter, pluckFrames, pluckString}

@@ -5,9 +5,9 @@ use native.Mathlib.Numerals.{add-one}
 use lib.ListN.{length}
 use Rattle.laws.specs.Run.{stateAt}
 use Rattle.laws.proofs.Fill.{samples-length}
-use Rattle.dsp.specs.SplitMix64.{advance, stateAfter}
-use Rattle.dsp.proofs.States.{state-none, state-next}
-use Rattle.dsp.specs.Draw.{biFrom}
+use Rattle.rng.specs.SplitMix64.{advance, stateAfter}
+use Rattle.rng.proofs.States.{state-none, state-next}
+use Rattle.rng.specs.Draw.{biFrom}
 use Rattle.plucked.specs.Noise.{noise}
 
 pub noise-length : (s n : ℕ) → length (noise s n) ≡ n

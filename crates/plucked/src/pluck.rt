@@ -3,7 +3,7 @@ ghost use mathlib.Core.Path.{_≡_};
 ghost use mathlib.Core.List.{_++_};
 ghost use Prim.Native.Nat.{_+_, _%_, _≤_, _<_};
 ghost use lib.ListN.{length, drop};
-ghost use Rattle.dsp.specs.SplitMix64.{stateAfter};
+ghost use Rattle.rng.specs.SplitMix64.{stateAfter};
 ghost use Rattle.plucked.specs.Noise.{noise};
 ghost use Rattle.plucked.specs.Pluck.{picked, plucked, atRest, ringFrames, ringAfter, pluckFrames, pluckString};
 use crate::guitar::Echo;
@@ -12,7 +12,7 @@ use crate::guitar::Timbre;
 use crate::guitar::guitar_timbre;
 use crate::guitar::ring_all;
 use dsl::PluckKnobs;
-use dsp::Rng;
+use rng::Rng;
 
 // What the pick's highpass holds: its last input and output.
 pub struct Pick {

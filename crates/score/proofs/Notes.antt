@@ -9,7 +9,7 @@ use Rattle.dsl.specs.Domain.{Frames}
 use Rattle.dsl.specs.declared.note.SeqNote.{SeqNote}
 use Rattle.dsl.specs.declared.note.Decoded.the-variants.{Note}
 use Rattle.groove.specs.Length.{skipped}
-use Rattle.groove.specs.Draws.{drawsOf}
+use Rattle.counts.specs.Draws.{drawsOf}
 use Rattle.groove.proofs.Room.{length-least, length-most, sounded-some, sounded-none, sounded-within}
 use Rattle.score.specs.Score.{Score, durOf, placeOf, place, pitch, drawsIn, noteDraws}
 

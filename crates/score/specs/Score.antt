@@ -11,7 +11,7 @@ use Rattle.dsl.specs.declared.note.Decoded.{Decoded}
 use Rattle.dsl.specs.declared.note.Decoded.the-variants.{Note, Kind}
 use Rattle.groove.specs.Timing.{stepDur, grooveOf}
 use Rattle.groove.specs.Length.{lengthOf, skipped, soundedOf}
-use Rattle.groove.specs.Draws.{drawsOf}
+use Rattle.counts.specs.Draws.{drawsOf}
 use Rattle.score.specs.declared.seq.Seq.{Seq}
 use Rattle.score.specs.declared.place.Place.{Place}
 

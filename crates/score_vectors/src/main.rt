@@ -5,8 +5,8 @@
 //   knobs, envelope numbers, note words and lane values there are, and these
 // A session's state is appended, or a call's number, its draws, the session after it and the frames.
 ghost use Prim.Native.Nat.{_≤_};
-use dsp::Rng;
 use libc::STDIN_FILENO;
+use rng::Rng;
 
 // How many values of a kind a line can have.
 const MOST: usize = 64;

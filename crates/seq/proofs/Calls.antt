@@ -6,8 +6,8 @@ use native.Mathlib.Omega.{arith}
 use borrow.Author.Tests.{ltb-true, ltb-false, lt-ltb, le-ltb}
 use lib.ListN.{length, drop}
 use lib.Dec.{ltb}
-use Rattle.dsp.specs.SplitMix64.{stateAfter}
-use Rattle.dsp.specs.declared.rng.Rng.{Rng}
+use Rattle.rng.specs.SplitMix64.{stateAfter}
+use Rattle.rng.specs.declared.Rng.{Rng}
 use Rattle.dsl.specs.Domain.{Rate, Frames}
 use Rattle.outcome.specs.Answer.{numberOf, Result, refused, accepted, unless, seen, outAfter, free}
 use Rattle.outcome.specs.declared.answer.Outcome.the-variants.{Played, Refused}
@@ -21,8 +21,8 @@ use Rattle.calls.specs.ScoreCall.{Event, Scored, scoreIn, sessionAfter, resultO
 use Rattle.session.specs.declared.Session.{Session}
 use Rattle.session.specs.declared.Answer.{Answer}
 use Rattle.score.proofs.Accepted.{accepted-score}
-use Rattle.verdict.specs.Sum.{sumOf}
-use Rattle.verdict.specs.declared.draws.Sum.the-variants.{Over, Total}
+use Rattle.draws.specs.Sum.{sumOf}
+use Rattle.draws.specs.declared.Sum.the-variants.{Over, Total}
 use Rattle.verdict.proofs.Order.{or-first}
 
 -- ---- 22 applies where none before it does and the draws pass what is left

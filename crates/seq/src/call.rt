@@ -1,5 +1,6 @@
 // The score call.
 ghost use Rattle.calls.specs.ScoreCall.{Scored};
+use draws::Sum;
 use outcome::Outcome;
 use outcome::Refusal;
 use outcome::Verdict;
@@ -7,7 +8,6 @@ use playing::play_notes;
 use score::Seq;
 use session::Answer;
 use session::Session;
-use verdict::Sum;
 
 // Fills `out` with a score, and answers how many draws it made and the session after them. `notes` has
 // five words a note, and the curves of pitches are parts of `lane`. An accepted call uses as many values
@@ -49,7 +49,7 @@ pub fn render_seq(
         };
     }
     let draw = session.draw;
-    let sum = verdict::score_draws(seq, notes, lane, n, u64::MAX - draw);
+    let sum = draws::score_draws(seq, notes, lane, n, u64::MAX - draw);
     let Sum::Total(d) = sum else {
         return Answer {
             session,

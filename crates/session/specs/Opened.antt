@@ -1,6 +1,6 @@
 -- A session opened at a draw.
 use Prim.Native.Nat.{ℕ}
-use Rattle.dsp.specs.SplitMix64.{stateAfter}
+use Rattle.rng.specs.SplitMix64.{stateAfter}
 use Rattle.session.specs.declared.Session.{Session}
 
 -- the session opened with the seed `seed` at draw d: "state s + c × G modulo 2^64"

@@ -1,8 +1,8 @@
 // A session: its generator, and how many draws were made of it. A score call moves it.
 ghost use mathlib.Core.Path.{_≡_};
 ghost use Rattle.session.specs.Opened.{sessionAt};
-use dsp::Rng;
 use outcome::Outcome;
+use rng::Rng;
 
 pub struct Session {
     pub rng: Rng,

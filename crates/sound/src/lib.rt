@@ -2,15 +2,15 @@
 ghost use mathlib.Core.Path.{_≡_};
 ghost use Prim.Native.Nat.{_+_, _≤_, _<_};
 ghost use lib.ListN.{length, drop};
-ghost use Rattle.dsp.specs.SplitMix64.{stateAfter};
+ghost use Rattle.rng.specs.SplitMix64.{stateAfter};
 ghost use Rattle.dsl.specs.Domain.{Rate, Frames};
 ghost use Rattle.dsl.specs.Pitch.{pitchAt, reaches};
-ghost use Rattle.groove.specs.Draws.{drawsOf};
+ghost use Rattle.counts.specs.Draws.{drawsOf};
 ghost use Rattle.voice.specs.Voice.{noteFrames};
 ghost use Rattle.mix.specs.Mix.{mixedAt};
 use dsl::Pitch;
 use dsl::SeqNote;
-use dsp::Rng;
+use rng::Rng;
 use score::Place;
 use score::Seq;
 

@@ -1,7 +1,7 @@
 // SplitMix64's published vectors: the first five draws of seed 1234567 in decimal and of seed 0 in
 // hexadecimal, one a line.
-use dsp::Rng;
 use libc::STDOUT_FILENO;
+use rng::Rng;
 
 fn print_decimal_draw(rng: Rng) -> Rng {
     let draw = rng.next_u64();

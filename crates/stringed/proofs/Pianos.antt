@@ -9,11 +9,11 @@ use lib.ListN.{length}
 use lib.Ieee.{Float}
 use Rattle.laws.specs.Run.{stateAt, samples}
 use Rattle.laws.proofs.Same.{Below, samples-same}
-use Rattle.dsp.specs.SplitMix64.{advance, stateAfter}
-use Rattle.dsp.proofs.States.{state-none, state-next}
+use Rattle.rng.specs.SplitMix64.{advance, stateAfter}
+use Rattle.rng.proofs.States.{state-none, state-next}
 use Rattle.dsl.specs.declared.knobs.PianoKnobs.{PianoKnobs}
 use Rattle.osc.specs.Phase.{seconds}
-use Rattle.groove.specs.Draws.{thumps, count}
+use Rattle.counts.specs.Draws.{thumps, count}
 use Rattle.stringed.specs.Hammer.{blowOf, partialsOf}
 use Rattle.stringed.specs.Wires.{pairOf}
 use Rattle.stringed.specs.Piano.{Piano, thumpEnd, pianoAt, normOf, soundFrames, soundEnd, pianoFrames}

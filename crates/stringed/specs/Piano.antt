@@ -8,11 +8,11 @@ use Rattle.ieee.specs.Numbers.{c0, c0·006, c0·3, c0·5, c1, c2}
 use Rattle.laws.specs.Run.{stateAt, samples}
 use Rattle.ieee.specs.Binary32.{_⊕_, _⊖_, _⊗_, _⊘_}
 use Rattle.ieee.specs.Order.{maxOf}
-use Rattle.dsp.specs.SplitMix64.{advance}
+use Rattle.rng.specs.SplitMix64.{advance}
 use Rattle.dsl.specs.declared.knobs.PianoKnobs.{PianoKnobs}
 use Rattle.osc.specs.Phase.{increment, seconds}
 use Rattle.stringed.specs.Constants.{c1e-6}
-use Rattle.dsp.specs.Draw.{biFrom}
+use Rattle.rng.specs.Draw.{biFrom}
 use Rattle.stringed.specs.Hammer.{blowOf, partialsOf}
 use Rattle.stringed.specs.Wires.{pairOf, added, moved, ampAdded}
 use Rattle.stringed.specs.declared.hammer.Partial.{Partial}

@@ -2,10 +2,10 @@
 ghost use mathlib.Core.Path.{_≡_};
 ghost use Prim.Native.Nat.{_+_, _≤_};
 ghost use lib.ListN.{length, take};
-ghost use Rattle.dsp.specs.SplitMix64.{stateAfter};
+ghost use Rattle.rng.specs.SplitMix64.{stateAfter};
 ghost use Rattle.dsl.specs.Pitch.{pitchAt, reaches};
 ghost use Rattle.stringed.specs.Piano.{thumpOf, thumpEnd, heard, pianoAt, normOf, soundFrames, soundEnd, pianoFrames};
-ghost use Rattle.groove.specs.Draws.{thumps, count};
+ghost use Rattle.counts.specs.Draws.{thumps, count};
 use crate::hammer::Partial;
 use crate::hammer::hammer_blow;
 use crate::hammer::piano_partials;
@@ -15,8 +15,8 @@ use crate::wires::string_pair;
 use crate::wires::wires_at;
 use dsl::PianoKnobs;
 use dsl::Pitch;
-use dsp::DrawF32;
-use dsp::Rng;
+use rng::DrawF32;
+use rng::Rng;
 
 pub struct PianoState {
     pub items: [Partial; 18],

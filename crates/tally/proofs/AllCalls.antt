@@ -6,8 +6,8 @@ use mathlib.Core.List.{List, _∷_, map}
 use native.Mathlib.Omega.{arith}
 use native.Mathlib.Nat.{zero-add, add-zero, le-refl}
 use lib.Ieee.{Float}
-use Rattle.dsp.specs.SplitMix64.{stateAfter}
-use Rattle.dsp.proofs.States.{state-add}
+use Rattle.rng.specs.SplitMix64.{stateAfter}
+use Rattle.rng.proofs.States.{state-add}
 use Rattle.outcome.specs.Answer.{Result, refused, accepted, unless}
 use Rattle.score.specs.Score.{Score, noteAt, count, drawsBefore, scoreDraws}
 use Rattle.calls.specs.Frames.{withNote, framesAfter, scoreFrames}

@@ -14,10 +14,11 @@ use Rattle.dsl.specs.declared.pitch.Pitch.{Pitch}
 use Rattle.dsl.specs.declared.pitch.Pitch.the-variants.{Const, Curve}
 use Rattle.dsl.specs.declared.note.SeqNote.{SeqNote}
 use Rattle.groove.specs.Length.{skipped}
-use Rattle.groove.specs.Draws.{drawsOf}
+use Rattle.counts.specs.Draws.{drawsOf}
 use Rattle.voice.proofs.Own.{note-same}
 use Rattle.outcome.specs.Answer.{accepted}
-use Rattle.note.specs.NoteCall.{valuesRefusal, noteCallRefusal, noteResultOf}
+use Rattle.note_refusals.specs.NoteRefusals.{valuesRefusal, noteCallRefusal}
+use Rattle.note.specs.NoteCall.{noteResultOf}
 use Rattle.score.specs.Score.{Score, place, pitch, drawsIn}
 use Rattle.calls.specs.Frames.{samplesIn}
 use Rattle.score.specs.Refusals.{refusal}

@@ -21,7 +21,7 @@ use Rattle.dsl.specs.declared.note.Decoded.the-variants.{Note, Kind}
 use Rattle.groove.specs.Humanize.{seedOf, humanizeDraws}
 use Rattle.groove.specs.Timing.{stepDur, humanOf, grooveOf}
 use Rattle.groove.specs.Length.{lengthOf, skipped, soundedOf}
-use Rattle.groove.specs.Draws.{drawsOf}
+use Rattle.counts.specs.Draws.{drawsOf}
 use Rattle.score.specs.Score.{Score, noteAt, count, durOf, placeOf, place, pitch, drawsIn, noteDraws, drawsBefore, scoreDraws}
 use Rattle.score.specs.Refusals.{refusalAt}
 use Rattle.tally.specs.Tally.{Call, allTaken, tallied, newDraw, tally, total}

@@ -13,7 +13,7 @@ use Rattle.dsl.specs.declared.knobs.Adsr.{Adsr}
 use Rattle.dsl.specs.declared.note.SeqNote.{SeqNote}
 use Rattle.dsl.specs.declared.note.Decoded.{Decoded}
 use Rattle.dsl.specs.declared.note.Decoded.the-variants.{Note, Kind}
-use Rattle.dsp.specs.SplitMix64.{stateAfter}
+use Rattle.rng.specs.SplitMix64.{stateAfter}
 use Rattle.groove.specs.Length.{skipped}
 use Rattle.voice.proofs.Own.{note-length}
 use Rattle.mix.specs.Mix.{gained, mixedAt}

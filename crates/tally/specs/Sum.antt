@@ -6,10 +6,10 @@ use lib.Dec.{ltb, leb}
 use lib.Ieee.{Float, nan}
 use Rattle.ieee.specs.Numbers.{c0}
 use Rattle.ieee.specs.Binary32.{_⊕_, _⊗_}
-use Rattle.dsp.specs.SplitMix64.{stateAfter}
+use Rattle.rng.specs.SplitMix64.{stateAfter}
 use Rattle.dsl.specs.declared.note.Decoded.{Decoded}
 use Rattle.dsl.specs.declared.note.Decoded.the-variants.{Note, Kind}
-use Rattle.mix.specs.Envelope.{adsrAt}
+use Rattle.envelope.specs.Envelope.{adsrAt}
 use Rattle.score.specs.Score.{Score, noteAt, place, drawsBefore}
 use Rattle.calls.specs.Frames.{samplesIn}
 

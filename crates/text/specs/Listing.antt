@@ -4,7 +4,7 @@ use mathlib.Core.List.{List, [], _∷_}
 use mathlib.Core.Bool.{Bool, true, cond}
 use lib.ListN.{length}
 use lib.Dec.{ltb}
-use Rattle.dsp.specs.SplitMix64.{stateAfter}
+use Rattle.rng.specs.SplitMix64.{stateAfter}
 use Rattle.outcome.specs.Answer.{Result, refused, accepted}
 use Rattle.score.specs.Score.{scoreOf}
 use Rattle.score.specs.declared.seq.Seq.{Seq}

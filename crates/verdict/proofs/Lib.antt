@@ -1,3 +1,2 @@
 pub mod Order
 mod Ends
-mod Adding

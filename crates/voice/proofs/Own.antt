@@ -32,7 +32,7 @@ use Rattle.blown.proofs.Own.{brassSame, fluteSame}
 use Rattle.plucked.specs.Pluck.{ringFrames, pluckFrames}
 use Rattle.stringed.specs.Piano.{soundFrames, pianoFrames}
 use Rattle.stringed.proofs.Pianos.{piano-same}
-use Rattle.groove.specs.Period.{periodOf}
+use Rattle.counts.specs.Period.{periodOf}
 use Rattle.voice.specs.Voice.{waveFrames, noteFrames}
 use Rattle.dsl.specs.declared.knobs.SeqVoice.{SeqVoice}
 

@@ -20,7 +20,7 @@ use Rattle.blown.specs.Brass.{brassFrames}
 use Rattle.blown.specs.Flute.{fluteFrames}
 use Rattle.plucked.specs.Pluck.{pluckFrames}
 use Rattle.stringed.specs.Piano.{pianoFrames}
-use Rattle.groove.specs.Period.{periodOf}
+use Rattle.counts.specs.Period.{periodOf}
 use Rattle.dsl.specs.declared.knobs.SeqVoice.{SeqVoice}
 
 -- by the wave, with the knobs of the voice v at the rate r

@@ -4,14 +4,14 @@ ghost use Prim.Native.Nat.{_≤_, _<_};
 ghost use lib.ListN.{length, drop};
 ghost use Rattle.dsl.specs.Domain.{Rate};
 ghost use Rattle.dsl.specs.Pitch.{pitchAt, reaches};
-ghost use Rattle.dsp.specs.SplitMix64.{stateAfter};
-ghost use Rattle.groove.specs.Draws.{drawsOf};
+ghost use Rattle.rng.specs.SplitMix64.{stateAfter};
+ghost use Rattle.counts.specs.Draws.{drawsOf};
 ghost use Rattle.voice.specs.Voice.{noteFrames};
 use crate::string::pluck_string;
 use dsl::Pitch;
 use dsl::SeqVoice;
 use dsl::SeqWave;
-use dsp::Rng;
+use rng::Rng;
 
 // Fills `out`, and hands back the generator after the note's draws. Of `string` only the first 9,600
 // values are used.

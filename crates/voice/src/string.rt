@@ -4,11 +4,11 @@ ghost use Prim.Native.Nat.{_≤_};
 ghost use lib.ListN.{length, drop};
 ghost use Rattle.ieee.specs.Numbers.{f32};
 ghost use Rattle.dsl.specs.Domain.{Rate};
-ghost use Rattle.dsp.specs.SplitMix64.{stateAfter};
-ghost use Rattle.groove.specs.Period.{periodOf};
+ghost use Rattle.rng.specs.SplitMix64.{stateAfter};
+ghost use Rattle.counts.specs.Period.{periodOf};
 ghost use Rattle.plucked.specs.Pluck.{pluckFrames};
 use dsl::PluckKnobs;
-use dsp::Rng;
+use rng::Rng;
 
 // Of `string` only the first 9,600 values are used.
 pub fn pluck_string(
@@ -26,7 +26,7 @@ pub fn pluck_string(
     ensures { λ _. ⌜ now (out .exit) ≡ pluckFrames knobs (f32 rate) (periodOf rate first) (rng .0) (length (now (out .entry))) ⌝ }
     ensures { λ _. ⌜ drop 9600 (now (string .exit)) ≡ drop 9600 (now (string .entry)) ⌝ }
 {
-    let period = groove::string_period(rate, first);
+    let period = counts::string_period(rate, first);
     let srf = std::num::nearest_u32_to_f32(rate);
     plucked::pluck_note(knobs, srf, period, rng, string, out)
 }

@@ -7,9 +7,9 @@ use Rattle.ieee.specs.Numbers.{c0}
 use Rattle.laws.specs.Run.{stateAt}
 use Rattle.laws.proofs.Same.{Below, samples-same}
 use Rattle.dsl.specs.declared.knobs.FmKnobs.{FmKnobs}
-use Rattle.dsp.specs.SplitMix64.{advance, stateAfter}
-use Rattle.dsp.specs.declared.rng.Rng.{Rng}
-use Rattle.dsp.proofs.States.{state-none, state-next}
+use Rattle.rng.specs.SplitMix64.{advance, stateAfter}
+use Rattle.rng.specs.declared.Rng.{Rng}
+use Rattle.rng.proofs.States.{state-none, state-next}
 use Rattle.waves.specs.Plain.{sawtoothAt, sawtoothFrames, sineAt, sineFrames}
 use Rattle.waves.specs.Pulse.{squareAt, squareFrames, triangleAt, triangleFrames}
 use Rattle.waves.specs.Fm.{fmAt, fmFrames}

@@ -3,9 +3,9 @@ use Prim.Native.Nat.{ℕ}
 use mathlib.Core.List.{List}
 use lib.Ieee.{Float}
 use Rattle.laws.specs.Run.{samples, stateAt}
-use Rattle.dsp.specs.SplitMix64.{advance}
-use Rattle.dsp.specs.Draw.{biFrom}
-use Rattle.dsp.specs.declared.rng.Rng.{Rng}
+use Rattle.rng.specs.SplitMix64.{advance}
+use Rattle.rng.specs.Draw.{biFrom}
+use Rattle.rng.specs.declared.Rng.{Rng}
 use Rattle.waves.specs.declared.hiss.NoiseOut.{NoiseOut}
 
 unfoldable pub noiseAt : Rng → NoiseOut

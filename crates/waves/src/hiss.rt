@@ -2,7 +2,7 @@
 ghost use mathlib.Core.Path.{_≡_};
 ghost use lib.ListN.{length};
 ghost use Rattle.waves.specs.Noise.{noiseAt, noiseFrames, noiseEnd};
-use dsp::Rng;
+use rng::Rng;
 
 pub struct NoiseOut {
     pub sample: f32,

@@ -1,7 +1,7 @@
 -- `exports::helpers::h_bi` meets its contract: the generator that `bi` draws from stands at the state. Assumes nothing.
 use borrow.Author.Needs.{needs}
 use mathlib.Core.Path.{ap, _∙_}
-use Rattle.dsp.specs.Draw.{biFrom}
+use Rattle.rng.specs.Draw.{biFrom}
 use Rattle.exports.proofs.helpers.h_bi.Statement.{statement}
 use Rattle.exports.proofs.helpers.h_bi.Tie as tie
 

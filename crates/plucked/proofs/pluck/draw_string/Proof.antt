@@ -5,8 +5,8 @@ use native.Mathlib.Omega.{arith}
 use borrow.Author.Needs.{needs}
 use lib.ListN.{length}
 use Rattle.laws.proofs.Fill.{Filled, filled-none, filled-length, filled-more-parts, filled-frames, filled-state}
-use Rattle.dsp.specs.SplitMix64.{advance}
-use Rattle.dsp.specs.Draw.{biFrom}
+use Rattle.rng.specs.SplitMix64.{advance}
+use Rattle.rng.specs.Draw.{biFrom}
 use Rattle.plucked.specs.Noise.{noise}
 use Rattle.plucked.proofs.Noise.{noise-end}
 use Rattle.plucked.proofs.pluck.draw_string.Statement.{statement}

@@ -1,14 +1,14 @@
 -- `voice::note::voice_note` meets its contract. Assumes nothing.
 use mathlib.Core.Path.{refl, sym, ap, _∙_}
 use native.Mathlib.Omega.{arith}
-use Rattle.dsp.specs.SplitMix64.{stateAfter}
-use Rattle.dsp.specs.declared.rng.Rng.{Rng}
-use Rattle.dsp.proofs.States.{state-none}
+use Rattle.rng.specs.SplitMix64.{stateAfter}
+use Rattle.rng.specs.declared.Rng.{Rng}
+use Rattle.rng.proofs.States.{state-none}
 use Rattle.dsl.proofs.Reach.{reaches-less}
 use Rattle.waves.proofs.Own.{noiseDraws}
 use Rattle.blown.proofs.Draws.{fluteDraws}
-use Rattle.groove.specs.Draws.{drawsOf}
-use Rattle.groove.proofs.Thump.{thump-count}
+use Rattle.counts.specs.Draws.{drawsOf}
+use Rattle.counts.proofs.Thump.{thump-count}
 use Rattle.voice.specs.Voice.{waveFrames}
 use borrow.Author.Needs.{needs}
 use Rattle.voice.proofs.note.voice_note.Statement.{statement}

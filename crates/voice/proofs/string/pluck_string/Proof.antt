@@ -4,7 +4,7 @@ use Prim.Native.Nat.{ℕ, _≤_, _<_}
 use native.Mathlib.Nat.{le-trans}
 use lib.Dec.{lit≤}
 use lib.ListN.{length}
-use Rattle.groove.proofs.Periods.{period-least, period-fits}
+use Rattle.counts.proofs.Periods.{period-least, period-fits}
 use Rattle.voice.proofs.Kept.{pluck-kept}
 use borrow.Author.Needs.{needs}
 use Rattle.voice.proofs.string.pluck_string.Statement.{statement}

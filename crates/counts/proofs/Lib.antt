@@ -1,0 +1,3 @@
+pub mod Thump
+pub mod Periods
+pub mod Few
