@@ -1,9 +1,5 @@
-pub mod Forms
-pub mod Lines
-pub mod Small
 pub mod Shorter
 pub mod Gather
-pub mod Sounds
 pub mod Texts
 pub mod Said
 pub mod Whole

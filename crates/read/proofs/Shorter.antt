@@ -7,12 +7,12 @@ use native.Mathlib.Omega.{arith}
 use lib.ListN.{length, drop, getD, length-drop}
 use lib.Dec.{ltb, leb, eqb}
 use Rattle.digits.specs.Read.{Read, got, broken, after, digitOf, byte, hexFrom, digitsFrom, fitting, decimal}
-use Rattle.read.specs.Line.{value, field, fields, before, ending, line}
+use Rattle.lines.specs.Line.{value, field, fields, before, ending, line}
 use Rattle.read.specs.Notes.{note, notesUpTo, notesOf, orElse, wordsOf, formN, formShort, gain1}
 use Rattle.read.specs.Answers.{noteIn}
 use Rattle.read.specs.declared.notes.LineN.{LineN}
 use Rattle.read.specs.declared.notes.LineN.the-variants.{At}
-use Rattle.read.proofs.Forms.{broken-got, picked, either, parted, after-same}
+use Rattle.lines.proofs.Forms.{broken-got, picked, either, parted, after-same}
 
 -- the bytes that were left are those that are
 same-left : {A : Type 0} {v w : A} {s r : List ℕ} → got v s ≡ got w r → length r ≡ length s

@@ -5,13 +5,13 @@ use mathlib.Core.List.{List}
 use native.Mathlib.Omega.{arith}
 use Rattle.dsl.specs.declared.knobs.Adsr.{Adsr}
 use Rattle.digits.specs.Read.{Read, got, broken, after}
-use Rattle.read.specs.Line.{lineS, lineG, lineE}
-use Rattle.read.specs.Voice.{lineV}
+use Rattle.lines.specs.Line.{lineS, lineG, lineE}
+use Rattle.lines.specs.Voice.{lineV}
 use Rattle.read.specs.Notes.{notesOf, countOf, Noted}
 use Rattle.read.specs.Text.{Text, seqOf, textOf, parsedOf, NotesIn, Parses}
-use Rattle.read.specs.declared.line.Numbers.{Numbers}
-use Rattle.read.specs.declared.line.Opening.{Opening}
-use Rattle.read.specs.declared.sound.Sound.{Sound}
+use Rattle.lines.specs.declared.fields.Numbers.{Numbers}
+use Rattle.lines.specs.declared.fields.Opening.{Opening}
+use Rattle.lines.specs.declared.sound.Sound.{Sound}
 use Rattle.read.specs.declared.notes.Count.{Count}
 use Rattle.read.specs.declared.notes.Count.the-variants as count-of
 use Rattle.read.specs.declared.text.Parsed.the-variants.{Score, Broken}

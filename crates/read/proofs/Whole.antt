@@ -4,11 +4,11 @@ use mathlib.Core.Path.{_≡_, refl}
 use mathlib.Core.List.{List, [], _∷_}
 use lib.ListN.{length}
 use Rattle.digits.specs.Read.{Read, got, broken}
-use Rattle.read.specs.Line.{before, lineS, lineG, lineE}
-use Rattle.read.specs.Voice.{lineV}
+use Rattle.lines.specs.Line.{before, lineS, lineG, lineE}
+use Rattle.lines.specs.Voice.{lineV}
 use Rattle.read.specs.Notes.{note, notesUpTo, notesOf}
 use Rattle.read.specs.Text.{Text, textOf}
-use Rattle.read.proofs.Forms.{broken-got, parted}
+use Rattle.lines.proofs.Forms.{broken-got, parted}
 
 before-rest : (vs : List ℕ) (x : Read (List ℕ)) {ws r : List ℕ} → ((us q : List ℕ) → x ≡ got us q → q ≡ []) → before vs x ≡ got ws r → r ≡ []
 unfolding before

@@ -4,7 +4,7 @@ use mathlib.Core.Path.{_≡_}
 use mathlib.Core.List.{List, [], _∷_, _++_}
 use lib.ListN.{length, drop, getD}
 use Rattle.digits.specs.Read.{Read, got, broken, after}
-use Rattle.read.specs.Line.{float, word, line, before}
+use Rattle.lines.specs.Line.{float, word, line, before}
 use Rattle.read.specs.declared.notes.Count.{Count}
 use Rattle.read.specs.declared.notes.Count.the-variants.{Lines, Broken}
 

@@ -1,8 +1,5 @@
-// A text score from its bytes. Each function reads one form at a place and answers what stands there
-// and the place after it, or that the bytes are not of the form.
-mod line; // line.rt: fields and lines, with S, G and E
+// A text score from its bytes: its notes, and the whole of it.
 mod notes; // notes.rt: the lines N
-mod sound; // sound.rt: the line V
 mod text; // text.rt: the whole text
 
 pub use text::Parsed;

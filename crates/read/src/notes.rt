@@ -5,10 +5,10 @@ ghost use Prim.Native.Nat.{_+_, _*_, _≤_};
 ghost use lib.ListN.{length, take, drop};
 ghost use Rattle.read.specs.Notes.{note, notesOf, Noted};
 ghost use Rattle.read.specs.Answers.{noteIn};
-use crate::line::FLOAT;
-use crate::line::WORD;
-use crate::line::line;
 use digits::Place;
+use lines::FLOAT;
+use lines::WORD;
+use lines::line;
 
 // Step, len, the bits of pitch and gain, and the place after the line.
 pub enum LineN {

@@ -1,15 +1,15 @@
 // The whole text.
 ghost use Rattle.read.specs.Text.{Parses};
-use crate::line::LineE;
-use crate::line::LineG;
-use crate::line::LineS;
-use crate::line::line_e;
-use crate::line::line_g;
-use crate::line::line_s;
 use crate::notes::Count;
 use crate::notes::notes;
-use crate::sound::LineV;
-use crate::sound::line_v;
+use lines::LineE;
+use lines::LineG;
+use lines::LineS;
+use lines::LineV;
+use lines::line_e;
+use lines::line_g;
+use lines::line_s;
+use lines::line_v;
 use score::Seq;
 
 // A score call's numbers and voice, the length of its output, the seed and the draw that open its
