@@ -1,12 +1,11 @@
 -- Where det.rs and fdlibm part (docs/DIFFERENCES.md): what the definitions give at an argument of each place. antt computes both sides. Assumes nothing.
 use mathlib.Core.Path.{_≡_, refl}
-use mathlib.Core.Bool.{true, false}
+use mathlib.Core.Bool.{false}
 use Prim.Native.Nat.{ℕ}
 use lib.IntN.{pos, negsuc}
 use lib.Ieee.{Float, nan, inf, binary64, ofBits, toBits, ofInt, toSigned, isNan, neg, add, sub, mul, div, lt, eq, round, size, units, odd, sum}
 use Rattle.ieee.specs.Whole.{whole}
-use Rattle.det.specs.Constants.{c0, c1, c2}
-use Rattle.det.specs.Trig.{sinPoly, cosPoly, lessTurns, reduce2pi, remEuclid4, quadrant, sinReduced, sinOf}
+use Rattle.ieee.specs.Numbers64.{c0, c1, c2}
 use Rattle.det.specs.Exp.{ldexp2Of, expFrom, expReduced, expOf}
 use Rattle.det.specs.Ln.{MIN·POSITIVE, lnSeries, lnSplit, lnOf}
 use Rattle.det.specs.Pow.{powfOf}
@@ -58,12 +57,3 @@ pub powers-of
     × (powfOf (inf false) (neg c1) ≡ f64 0x0004_0000_0000_001b)
 unfolding powfOf expOf expFrom expReduced ldexp2Of lnOf lnSplit lnSeries isNan lt eq ofBits toBits add sub mul div neg round size units odd sum whole toSigned ofInt
 powers-of = (refl, refl, refl, refl, refl, refl, refl, refl, refl)
-
--- sine of -0, of the f64 nearest to π, of 10 ^ 15 and of 10 ^ 300
-pub sines
-    : (sinOf (neg c0) ≡ c0)
-    × (sinOf (f64 0x4009_21fb_5444_2d18) ≡ f64 0x3cc0_0000_0000_0000)
-    × (sinOf (f64 0x430c_6bf5_2634_0000) ≡ f64 0x3feb_d88a_d103_d8c7)
-    × (sinOf (f64 0x7e37_e43c_8800_759c) ≡ inf true)
-unfolding sinReduced sinOf lessTurns reduce2pi quadrant remEuclid4 sinPoly cosPoly lt ofBits add sub mul div neg round size units odd sum whole toSigned ofInt
-sines = (refl, refl, refl, refl)

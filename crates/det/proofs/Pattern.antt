@@ -14,7 +14,7 @@ use mir.Val.{SFits, toZ, ofZ}
 use mir.Facts.{toZ-pos}
 use Rattle.det.specs.Ln.{SQRT·2, foldExp}
 use Rattle.ieee.proofs.Nans.{plain-bits}
-use Rattle.det.proofs.Signed.{back}
+use Rattle.float.proofs.Signed.{back}
 
 either-small : (b : Bool) (x y top : ℕ) → x < top → y < top → mag (cond b (negsuc x) (pos y)) < top
 either-small true x y top p q = p

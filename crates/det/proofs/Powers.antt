@@ -11,7 +11,7 @@ use lib.Signed.{ltZ, nonNeg}
 use borrow.Author.Tests.{ltb-true, ltb-false, le-ltb}
 use mir.Syntax.{w64}
 use mir.Val.{Fits, SFits, toZ, ofZ}
-use Rattle.det.proofs.Signed.{pos-fits, pos-back, pos-cast}
+use Rattle.float.proofs.Signed.{pos-fits, pos-back, pos-cast}
 
 -- k + j is n, which is below `over`
 pub record Lifted (k : ℤ) (j over : ℕ) : Type 0 where

@@ -6,7 +6,7 @@ use lib.Signed.{ltZ}
 use lib.Ieee.{Float, inf, binary64, ofBits, lt, toSigned}
 use Rattle.ieee.specs.Binary64.{_⊕_, _⊖_, _⊗_, _⊘_}
 use Rattle.ieee.specs.Whole.{roundOf}
-use Rattle.det.specs.Constants.{c0, c1, c2}
+use Rattle.ieee.specs.Numbers64.{c0, c1, c2}
 
 -- ln 2 in two parts
 -- 6.93147180369123816490e-01

@@ -1,6 +1,3 @@
-pub mod Constants
-pub mod Rounded
-pub mod Trig
 pub mod Exp
 pub mod Ln
 pub mod Pow

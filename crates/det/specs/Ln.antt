@@ -5,7 +5,7 @@ use lib.Bits.{bitAnd, bitOr}
 use lib.IntN.{ℤ, pos, _+ℤ_, _-ℤ_}
 use lib.Ieee.{Float, nan, inf, binary64, ofBits, toBits, isNan, neg, lt, eq, ofInt}
 use Rattle.ieee.specs.Binary64.{_⊕_, _⊖_, _⊗_, _⊘_}
-use Rattle.det.specs.Constants.{c0, c0·5, c1, c2}
+use Rattle.ieee.specs.Numbers64.{c0, c0·5, c1, c2}
 use Rattle.det.specs.Exp.{LN2·HI, LN2·LO}
 
 -- 6.666666666666735130e-01

@@ -2,7 +2,7 @@
 use mathlib.Core.Bool.{false, cond}
 use lib.Ieee.{Float, nan, inf, lt, eq}
 use Rattle.ieee.specs.Binary64.{_⊗_}
-use Rattle.det.specs.Constants.{c0, c1}
+use Rattle.ieee.specs.Numbers64.{c0, c1}
 use Rattle.det.specs.Exp.{expOf}
 use Rattle.det.specs.Ln.{lnOf}
 

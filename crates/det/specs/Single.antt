@@ -1,17 +1,10 @@
--- The f32 wrappers of det.rs. The value of an f32 is its f64's, so `x as f64` is x; the kernel's answer is narrowed once.
+-- The f32 wrappers of exp, ln, powf and tanh. The value of an f32 is its f64's, so `x as f64` is x; the kernel's answer is narrowed once.
 use lib.Ieee.{Float}
 use Rattle.ieee.specs.Narrow.{narrowOf}
-use Rattle.det.specs.Trig.{sinOf, cosOf}
 use Rattle.det.specs.Exp.{expOf}
 use Rattle.det.specs.Ln.{lnOf}
 use Rattle.det.specs.Pow.{powfOf}
 use Rattle.det.specs.Tanh.{tanhOf}
-
-abbrev pub sinfOf : Float → Float
-sinfOf x = narrowOf (sinOf x)
-
-abbrev pub cosfOf : Float → Float
-cosfOf x = narrowOf (cosOf x)
 
 abbrev pub expfOf : Float → Float
 expfOf x = narrowOf (expOf x)

@@ -2,7 +2,7 @@
 use mathlib.Core.Bool.{cond}
 use lib.Ieee.{Float, nan, binary64, ofBits, neg, isNan, lt}
 use Rattle.ieee.specs.Binary64.{_⊕_, _⊖_, _⊗_, _⊘_}
-use Rattle.det.specs.Constants.{c0, c0·5, c1, c2}
+use Rattle.ieee.specs.Numbers64.{c0, c0·5, c1, c2}
 use Rattle.det.specs.Exp.{expOf}
 
 -- INV_FACT, the quotients as f64 has them; its first two are 1.0 and 0.5

@@ -2,8 +2,7 @@
 ghost use mathlib.Core.Path.{_≡_};
 ghost use lib.Dec.{T};
 ghost use Rattle.det.specs.Exp.{ldexp2Of, expFrom, expReduced, expOf};
-ghost use Rattle.det.specs.Rounded.{noFraction};
-use crate::rounded::rounded_to_i64;
+ghost use Rattle.float.specs.Rounded.{noFraction};
 use crate::special::infinity;
 
 pub(crate) const LN2_HI: f64 = 6.93147180369123816490e-01; // 3fe62e42fee00000
@@ -52,7 +51,7 @@ fn exp_from(x: f64, k: f64) -> f64
     let t = r * r;
     let c = r - t * (P1 + t * (P2 + t * (P3 + t * (P4 + t * P5))));
     let y = 1.0 - ((r * c) / (c - 2.0) - r);
-    y * ldexp2(rounded_to_i64(k))
+    y * ldexp2(float::rounded_to_i64(k))
 }
 
 // k is x / ln 2, rounded. The sum with 2^52 rounds to the nearest whole number, which is k but at

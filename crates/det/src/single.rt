@@ -1,24 +1,10 @@
 // The f32 wrappers: the f64 kernel, narrowed once.
 ghost use mathlib.Core.Path.{_≡_};
-ghost use Rattle.det.specs.Single.{sinfOf, cosfOf, expfOf, lnfOf, powffOf, tanhfOf};
+ghost use Rattle.det.specs.Single.{expfOf, lnfOf, powffOf, tanhfOf};
 use crate::exponential::exp;
 use crate::hyperbolic::tanh;
 use crate::logarithm::ln;
 use crate::power::powf;
-use crate::trig::cos;
-use crate::trig::sin;
-
-pub fn sinf(x: f32) -> f32
-    ensures { λ r. ⌜ r ≡ sinfOf x ⌝ }
-{
-    rounding::narrow(sin(rounding::widen(x)))
-}
-
-pub fn cosf(x: f32) -> f32
-    ensures { λ r. ⌜ r ≡ cosfOf x ⌝ }
-{
-    rounding::narrow(cos(rounding::widen(x)))
-}
 
 pub fn expf(x: f32) -> f32
     ensures { λ r. ⌜ r ≡ expfOf x ⌝ }

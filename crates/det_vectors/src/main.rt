@@ -6,10 +6,10 @@ use libc::STDIN_FILENO;
 fn answer_f64(line: &[u8]) {
     let x = vectors::f64_field(line, 1);
     if vectors::is_named(line, b"sin") {
-        vectors::print_f64(det::sin(x));
+        vectors::print_f64(trig::sin(x));
     }
     if vectors::is_named(line, b"cos") {
-        vectors::print_f64(det::cos(x));
+        vectors::print_f64(trig::cos(x));
     }
     if vectors::is_named(line, b"exp") {
         vectors::print_f64(det::exp(x));
@@ -26,10 +26,10 @@ fn answer_f64(line: &[u8]) {
 fn answer_f32(line: &[u8]) {
     let x = vectors::f32_field(line, 1);
     if vectors::is_named(line, b"sinf") {
-        vectors::print_f32(det::sinf(x));
+        vectors::print_f32(trig::sinf(x));
     }
     if vectors::is_named(line, b"cosf") {
-        vectors::print_f32(det::cosf(x));
+        vectors::print_f32(trig::cosf(x));
     }
     if vectors::is_named(line, b"expf") {
         vectors::print_f32(det::expf(x));

@@ -1,7 +1,8 @@
 -- dsp.rs's f32 kernels, each its f64 kernel of det.rs narrowed once, and `one_pole`.
 use lib.Ieee.{Float, binary32, ofBits, neg}
 use Rattle.ieee.specs.Binary32.{_⊗_, _⊘_}
-use Rattle.det.specs.Single.{sinfOf, cosfOf, expfOf, powffOf, tanhfOf}
+use Rattle.trig.specs.Single.{sinfOf, cosfOf}
+use Rattle.det.specs.Single.{expfOf, powffOf, tanhfOf}
 
 -- TAU, 6.28318530717958647692528676655900577
 abbrev pub TAU : Float

@@ -1,4 +1,4 @@
-// dsp.rs: the kernels of `det` at f32, under the names that the voices call, and `one_pole`.
+// dsp.rs: the kernels of `trig` and `det` at f32, under the names that the voices call, and `one_pole`.
 ghost use mathlib.Core.Path.{_≡_};
 ghost use Rattle.dsp.specs.Kernels.{sinOf, cosOf, expOf, powfOf, tanhOf, onePole};
 
@@ -7,13 +7,13 @@ pub const TAU: f32 = 6.28318530717958647692528676655900577; // 40c90fdb
 pub fn sin(x: f32) -> f32
     ensures { λ r. ⌜ r ≡ sinOf x ⌝ }
 {
-    det::sinf(x)
+    trig::sinf(x)
 }
 
 pub fn cos(x: f32) -> f32
     ensures { λ r. ⌜ r ≡ cosOf x ⌝ }
 {
-    det::cosf(x)
+    trig::cosf(x)
 }
 
 pub fn exp(x: f32) -> f32

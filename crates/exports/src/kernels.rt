@@ -1,24 +1,25 @@
 // The kernels and their f32 wrappers under C names.
 ghost use mathlib.Core.Path.{_≡_};
-ghost use Rattle.det.specs.Trig.{sinOf, cosOf};
+ghost use Rattle.trig.specs.Trig.{sinOf, cosOf};
 ghost use Rattle.det.specs.Exp.{expOf};
 ghost use Rattle.det.specs.Ln.{lnOf};
 ghost use Rattle.det.specs.Pow.{powfOf};
 ghost use Rattle.det.specs.Tanh.{tanhOf};
-ghost use Rattle.det.specs.Single.{sinfOf, cosfOf, expfOf, lnfOf, powffOf, tanhfOf};
+ghost use Rattle.trig.specs.Single.{sinfOf, cosfOf};
+ghost use Rattle.det.specs.Single.{expfOf, lnfOf, powffOf, tanhfOf};
 
 #[no_mangle]
 pub extern "C" fn h_sin(x: f64) -> f64
     ensures { λ r. ⌜ r ≡ sinOf x ⌝ }
 {
-    det::sin(x)
+    trig::sin(x)
 }
 
 #[no_mangle]
 pub extern "C" fn h_cos(x: f64) -> f64
     ensures { λ r. ⌜ r ≡ cosOf x ⌝ }
 {
-    det::cos(x)
+    trig::cos(x)
 }
 
 #[no_mangle]
@@ -53,14 +54,14 @@ pub extern "C" fn h_tanh(x: f64) -> f64
 pub extern "C" fn h_sinf(x: f32) -> f32
     ensures { λ r. ⌜ r ≡ sinfOf x ⌝ }
 {
-    det::sinf(x)
+    trig::sinf(x)
 }
 
 #[no_mangle]
 pub extern "C" fn h_cosf(x: f32) -> f32
     ensures { λ r. ⌜ r ≡ cosfOf x ⌝ }
 {
-    det::cosf(x)
+    trig::cosf(x)
 }
 
 #[no_mangle]

@@ -1,3 +1,5 @@
 mod Wholes
 pub mod Signs
 mod Casting
+pub mod Signed
+pub mod Casts

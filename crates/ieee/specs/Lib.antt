@@ -7,3 +7,4 @@ pub mod Nearest
 pub mod Binary32
 pub mod Binary64
 pub mod Numbers
+pub mod Numbers64

@@ -1,7 +1,7 @@
 -- `det::exponential::exp_from` meets its contract. Assumes nothing.
 use borrow.Author.Needs.{needs}
 use Rattle.det.specs.Exp.{expFrom}
-use Rattle.det.proofs.Signed.{back}
+use Rattle.float.proofs.Signed.{back}
 use Rattle.det.proofs.exponential.exp_from.Statement.{statement}
 use Rattle.det.proofs.exponential.exp_from.Tie as tie
 

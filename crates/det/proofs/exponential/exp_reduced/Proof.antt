@@ -8,8 +8,8 @@ use Rattle.ieee.specs.Binary64.{_⊕_, _⊖_, _⊗_}
 use Rattle.ieee.specs.Whole.{roundOf}
 use Rattle.float.proofs.Signs.{half-near, half-near-mirrored}
 use Rattle.det.specs.Exp.{INV·LN2, expFrom, expReduced}
-use Rattle.det.specs.Rounded.{noFraction}
-use Rattle.det.proofs.Casts.{round-whole}
+use Rattle.float.specs.Rounded.{noFraction}
+use Rattle.float.proofs.Casts.{round-whole}
 use Rattle.det.proofs.exponential.exp_reduced.Statement.{statement}
 use Rattle.det.proofs.exponential.exp_reduced.Tie as tie
 

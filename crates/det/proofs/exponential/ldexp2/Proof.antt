@@ -13,7 +13,7 @@ use Rattle.laws.proofs.If.{if-true, if-false}
 use Rattle.ieee.proofs.Rounding.{unit-is}
 use Rattle.det.specs.Exp.{ldexp2Of}
 use Rattle.ieee.proofs.Nans.{plain-bits}
-use Rattle.det.proofs.Signed.{back}
+use Rattle.float.proofs.Signed.{back}
 use Rattle.det.proofs.Powers.{Lifted, subnormal, normal, sum-fits, sum-cast, sum-is, sum-below, shifted, shifted-low, digit-low}
 use Rattle.det.proofs.exponential.ldexp2.Statement.{statement}
 use Rattle.det.proofs.exponential.ldexp2.Tie as tie

@@ -1,6 +1,6 @@
 -- `det::logarithm::fold_exp` meets its contract. Assumes nothing.
 use Rattle.laws.proofs.If.{if-true, if-false}
-use Rattle.det.proofs.Signed.{back}
+use Rattle.float.proofs.Signed.{back}
 use Rattle.det.proofs.Pattern.{next-fits, next-is}
 use Rattle.det.proofs.logarithm.fold_exp.Statement.{statement}
 use Rattle.det.proofs.logarithm.fold_exp.Tie as tie

@@ -2,8 +2,8 @@
 use native.Mathlib.Nat.{lt-trans}
 use lib.Dec.{lit<}
 use Rattle.det.specs.Ln.{lnSeries}
-use Rattle.det.proofs.Signed.{back}
-use Rattle.det.proofs.Casts.{in-float}
+use Rattle.float.proofs.Signed.{back}
+use Rattle.float.proofs.Casts.{in-float}
 use Rattle.det.proofs.logarithm.ln_series.Statement.{statement}
 use Rattle.det.proofs.logarithm.ln_series.Tie as tie
 

@@ -9,7 +9,7 @@ use lib.Ieee.{Float, binary64, toBits}
 use mir.Syntax.{w64}
 use mir.Val.{toZ, ofZ}
 use Rattle.det.specs.Ln.{lnSplit}
-use Rattle.det.proofs.Signed.{back}
+use Rattle.float.proofs.Signed.{back}
 use Rattle.det.proofs.Pattern.{exponent-fits, exponent-is, exponent-small, fold-small, mantissa-number}
 use Rattle.det.proofs.logarithm.ln_split.Statement.{statement}
 use Rattle.det.proofs.logarithm.ln_split.Tie as tie
