@@ -10,11 +10,11 @@ use Rattle.note.specs.NoteCall.{NoteEvent, Voiced, noteResultOf, noteResultIn, 
 use Rattle.note.specs.declared.answer.NoteAnswer.{NoteAnswer}
 use Rattle.outcome.specs.declared.answer.Outcome.the-variants.{Played, Refused}
 use Rattle.outcome.specs.declared.answer.Refusal.{Refusal}
-use Rattle.harness.specs.Knobs.{voiceAt}
+use Rattle.knobs.specs.Knobs.{voiceAt}
 use Rattle.harness.specs.Called.{Called, none, made, Places, Holds}
 use Rattle.harness.specs.Note.{NoteExport, NoteExported, calledWith, calledIn}
-use Rattle.harness.specs.declared.knobs.VoiceAt.{VoiceAt}
-use Rattle.harness.specs.declared.knobs.VoiceAt.the-variants.{Voice, Nothing}
+use Rattle.knobs.specs.declared.VoiceAt.{VoiceAt}
+use Rattle.knobs.specs.declared.VoiceAt.the-variants.{Voice, Nothing}
 use Rattle.harness.proofs.Ends.{Returned, outcome, made-holds}
 
 -- the note call that was made, with the voice v and the generator g; a is its answer

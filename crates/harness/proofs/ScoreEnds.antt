@@ -12,15 +12,15 @@ use Rattle.outcome.specs.declared.answer.Refusal.{Refusal}
 use Rattle.calls.specs.ScoreCall.{Event, Scored, resultOf, resultIn, sessionAfter}
 use Rattle.session.specs.declared.Session.{Session}
 use Rattle.session.specs.declared.Answer.{Answer}
-use Rattle.harness.specs.Knobs.{voiceAt, envAt}
+use Rattle.knobs.specs.Knobs.{voiceAt, envAt}
 use Rattle.harness.specs.Called.{Called, none, made, drawAfterCall, freeAfterCall, Places, Holds}
 use Rattle.harness.specs.Score.{ScoreExport, ScoreExported, seqWith, scoreWith, calledWith, calledIn}
-use Rattle.harness.specs.declared.knobs.VoiceAt.{VoiceAt}
-use Rattle.harness.specs.declared.knobs.VoiceAt.the-variants.{Voice}
-use Rattle.harness.specs.declared.knobs.VoiceAt.the-variants as voices
-use Rattle.harness.specs.declared.knobs.EnvAt.{EnvAt}
-use Rattle.harness.specs.declared.knobs.EnvAt.the-variants.{Env}
-use Rattle.harness.specs.declared.knobs.EnvAt.the-variants as envelopes
+use Rattle.knobs.specs.declared.VoiceAt.{VoiceAt}
+use Rattle.knobs.specs.declared.VoiceAt.the-variants.{Voice}
+use Rattle.knobs.specs.declared.VoiceAt.the-variants as voices
+use Rattle.knobs.specs.declared.EnvAt.{EnvAt}
+use Rattle.knobs.specs.declared.EnvAt.the-variants.{Env}
+use Rattle.knobs.specs.declared.EnvAt.the-variants as envelopes
 use Rattle.harness.proofs.Ends.{Returned, outcome, made-holds}
 
 -- the session that was handed in, with the generator g

@@ -1,6 +1,5 @@
 // The note call and the score call under C names, for the comparison with Rust and for timing. No
 // customer links this.
-mod knobs; // knobs.rt: a voice from a wave's place and knobs, an envelope from its values
 mod notes; // notes.rt: the note call
 mod scores; // scores.rt: the score call
 

@@ -1,8 +1,8 @@
 // The note call from C.
 ghost use Rattle.harness.specs.Note.{NoteExported};
-use crate::knobs::VoiceAt;
-use crate::knobs::voice_at;
 use dsp::Rng;
+use knobs::VoiceAt;
+use knobs::voice_at;
 use outcome::Outcome;
 
 // 0 where the call is accepted, else the refusal's number. `state` is the generator's, and changes

@@ -1,10 +1,10 @@
 // The score call from C.
 ghost use Rattle.harness.specs.Score.{ScoreExported};
-use crate::knobs::EnvAt;
-use crate::knobs::VoiceAt;
-use crate::knobs::env_at;
-use crate::knobs::voice_at;
 use dsp::Rng;
+use knobs::EnvAt;
+use knobs::VoiceAt;
+use knobs::env_at;
+use knobs::voice_at;
 use outcome::Outcome;
 use score::Seq;
 use session::Session;
