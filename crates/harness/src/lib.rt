@@ -1,5 +1,7 @@
-// The note call and the score call under C names, for the comparison with Rust and for timing. No
-// customer links this.
+// The float helpers, the generator, the kernels, the note call and the score call under C names, for
+// the comparison with Rust and for timing. No customer links this.
+mod helpers; // helpers.rt: the float helpers and the generator
+mod kernels; // kernels.rt: the kernels of det
 mod notes; // notes.rt: the note call
 mod scores; // scores.rt: the score call
 
