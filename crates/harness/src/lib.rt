@@ -3,6 +3,7 @@
 mod helpers; // helpers.rt: the float helpers and the generator
 mod kernels; // kernels.rt: the kernels of det
 mod notes; // notes.rt: the note call
+mod outcomes; // outcomes.rt: the numbers of an outcome
 mod scores; // scores.rt: the score call
 
 pub use notes::h_note;

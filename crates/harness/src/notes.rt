@@ -1,9 +1,10 @@
 // The note call from C.
 ghost use Rattle.harness.specs.Note.{NoteExported};
+use crate::outcomes::draws_of;
+use crate::outcomes::number_of;
 use dsp::Rng;
 use knobs::VoiceAt;
 use knobs::voice_at;
-use outcome::Outcome;
 
 // 0 where the call is accepted, else the refusal's number. `state` is the generator's, and changes
 // only with an accepted call; `draws` gets the draws made, 0 for a refusal. Where there is no such wave
@@ -46,17 +47,9 @@ pub extern "C" fn h_note(
     };
     let rng = Rng::new(*state);
     let answer = note::seq_note_signal(rng, rate, voice, gain, pitch, duty, out, string);
+    let after = answer.rng;
     let outcome = answer.outcome;
-    match outcome {
-        Outcome::Played(made) => {
-            let after = answer.rng;
-            *state = after.state();
-            *draws = made;
-            0
-        }
-        Outcome::Refused(refusal) => {
-            *draws = 0;
-            refusal.number()
-        }
-    }
+    *state = after.state();
+    *draws = draws_of(outcome);
+    number_of(outcome)
 }
