@@ -11,7 +11,6 @@ const DEFAULT_SOURCE: &str = "../../shared/docs/src";
 fn main() {
     let own = env::var("CARGO_MANIFEST_DIR").expect("cargo sets CARGO_MANIFEST_DIR");
     let own = Path::new(&own);
-    link(own, "exports");
     link(own, "harness");
     link(own, "tono");
     println!("cargo:rerun-if-env-changed=TONO_SRC");

@@ -1,21 +1,20 @@
 -- The ways in which `h_note` ends. Assumes nothing.
 use Prim.Native.Nat.{ℕ}
-use mathlib.Core.Path.{_≡_, sym, ap, _∙_}
+use mathlib.Core.Path.{_≡_, refl, sym, ap, _∙_}
+use mathlib.Core.List.{[]}
 use lib.ListN.{length}
-use Rattle.rng.specs.SplitMix64.{stateAfter}
 use Rattle.rng.specs.declared.Rng.{Rng}
 use Rattle.dsl.specs.declared.knobs.SeqVoice.{SeqVoice}
-use Rattle.outcome.specs.Answer.{numberOf, Result}
+use Rattle.outcome.specs.Answer.{Result, refused, accepted, seen}
+use Rattle.tally.specs.Tally.{reported}
 use Rattle.note.specs.NoteCall.{NoteEvent, Voiced, noteResultOf, noteResultIn, rngAfter}
 use Rattle.note.specs.declared.answer.NoteAnswer.{NoteAnswer}
-use Rattle.outcome.specs.declared.answer.Outcome.the-variants.{Played, Refused}
-use Rattle.outcome.specs.declared.answer.Refusal.{Refusal}
-use Rattle.harness.specs.Knobs.{voiceAt}
-use Rattle.harness.specs.Called.{Called, none, made, Places, Holds}
+use Rattle.knobs.specs.Knobs.{voiceAt}
+use Rattle.harness.specs.Called.{Called, none, made, numberIn, stateAfterResult, Places, Holds}
 use Rattle.harness.specs.Note.{NoteExport, NoteExported, calledWith, calledIn}
-use Rattle.harness.specs.declared.knobs.VoiceAt.{VoiceAt}
-use Rattle.harness.specs.declared.knobs.VoiceAt.the-variants.{Voice, Nothing}
-use Rattle.harness.proofs.Ends.{Returned, outcome, made-holds}
+use Rattle.knobs.specs.declared.VoiceAt.{VoiceAt}
+use Rattle.knobs.specs.declared.VoiceAt.the-variants.{Voice, Nothing}
+use Rattle.harness.proofs.Ends.{Returned, made-holds}
 
 -- the note call that was made, with the voice v and the generator g; a is its answer
 abbrev callOf : NoteExport → SeqVoice → Rng → NoteAnswer → NoteEvent
@@ -32,6 +31,10 @@ callOf e v g a = record {
   out = e .places .out;
   string = e .places .string;
 }
+
+state-after : (g : Rng) (x : Result) → rngAfter g x .0 ≡ stateAfterResult (g .0) x
+state-after g (refused number) = refl
+state-after g (accepted draws frames) = refl
 
 module _ (e : NoteExport) where
   abbrev p : Places
@@ -53,11 +56,7 @@ module _ (e : NoteExport) where
     returned : Returned p result (a .outcome)
     returned = record { answer = call .answer; frames = call .frames; string = call .string }
 
-    pub refused-call : (r : Refusal) → a .outcome ≡ Refused r → p .number ≡ numberOf r → p .draws ≡ 0 → p .state ≡ p .state₀ → NoteExported e
-    refused-call r h n d s = exported (made result) called (made-holds p result (a .outcome) returned (Refused r) h n d s)
-
-    pub accepted-call : (t : ℕ) → a .outcome ≡ Played t → p .number ≡ 0 → p .draws ≡ t → p .state ≡ a .rng .0 → NoteExported e
-    accepted-call t h n d s =
-        let q = outcome p result (a .outcome) returned (Played t) h in
-        let after = s ∙ ap (λ (x : Rng). x .0) (call .rng) ∙ ap (λ (x : Result). rngAfter g x .0) q ∙ ap (λ (x : ℕ). stateAfter x t) state in
-        exported (made result) called (made-holds p result (a .outcome) returned (Played t) h n d after)
+    pub call-holds : p .number ≡ numberIn (seen (a .outcome) []) → p .draws ≡ reported (seen (a .outcome) []) → p .state ≡ a .rng .0 → NoteExported e
+    call-holds n d s =
+        let after = s ∙ ap (λ (x : Rng). x .0) (call .rng) ∙ state-after g result ∙ ap (λ (x : ℕ). stateAfterResult x result) state in
+        exported (made result) called (made-holds returned n d after)

@@ -1,27 +1,26 @@
 -- The ways in which `h_score` ends. Assumes nothing.
-use Prim.Native.Nat.{ℕ, _+_}
-use mathlib.Core.Path.{_≡_, sym, ap, _∙_}
+use Prim.Native.Nat.{ℕ}
+use mathlib.Core.Path.{_≡_, refl, sym, ap, _∙_}
+use mathlib.Core.List.{[]}
 use lib.ListN.{length, drop}
-use Rattle.rng.specs.SplitMix64.{stateAfter}
 use Rattle.rng.specs.declared.Rng.{Rng}
 use Rattle.dsl.specs.declared.knobs.Adsr.{Adsr}
 use Rattle.dsl.specs.declared.knobs.SeqVoice.{SeqVoice}
-use Rattle.outcome.specs.Answer.{numberOf, Result}
-use Rattle.outcome.specs.declared.answer.Outcome.the-variants.{Played, Refused}
-use Rattle.outcome.specs.declared.answer.Refusal.{Refusal}
+use Rattle.outcome.specs.Answer.{Result, refused, accepted, seen}
+use Rattle.tally.specs.Tally.{reported}
 use Rattle.calls.specs.ScoreCall.{Event, Scored, resultOf, resultIn, sessionAfter}
 use Rattle.session.specs.declared.Session.{Session}
 use Rattle.session.specs.declared.Answer.{Answer}
-use Rattle.harness.specs.Knobs.{voiceAt, envAt}
-use Rattle.harness.specs.Called.{Called, none, made, drawAfterCall, freeAfterCall, Places, Holds}
+use Rattle.knobs.specs.Knobs.{voiceAt, envAt}
+use Rattle.harness.specs.Called.{Called, none, made, numberIn, stateAfterResult, drawAfterResult, drawAfterCall, freeAfterCall, Places, Holds}
 use Rattle.harness.specs.Score.{ScoreExport, ScoreExported, seqWith, scoreWith, calledWith, calledIn}
-use Rattle.harness.specs.declared.knobs.VoiceAt.{VoiceAt}
-use Rattle.harness.specs.declared.knobs.VoiceAt.the-variants.{Voice}
-use Rattle.harness.specs.declared.knobs.VoiceAt.the-variants as voices
-use Rattle.harness.specs.declared.knobs.EnvAt.{EnvAt}
-use Rattle.harness.specs.declared.knobs.EnvAt.the-variants.{Env}
-use Rattle.harness.specs.declared.knobs.EnvAt.the-variants as envelopes
-use Rattle.harness.proofs.Ends.{Returned, outcome, made-holds}
+use Rattle.knobs.specs.declared.VoiceAt.{VoiceAt}
+use Rattle.knobs.specs.declared.VoiceAt.the-variants.{Voice}
+use Rattle.knobs.specs.declared.VoiceAt.the-variants as voices
+use Rattle.knobs.specs.declared.EnvAt.{EnvAt}
+use Rattle.knobs.specs.declared.EnvAt.the-variants.{Env}
+use Rattle.knobs.specs.declared.EnvAt.the-variants as envelopes
+use Rattle.harness.proofs.Ends.{Returned, made-holds}
 
 -- the session that was handed in, with the generator g
 abbrev sessionOf : ScoreExport → Rng → Session
@@ -41,6 +40,14 @@ callOf e v m a = record {
   buffer = e .buffer;
   string = e .places .string;
 }
+
+state-after : (a : Session) (x : Result) → sessionAfter a x .rng .0 ≡ stateAfterResult (a .rng .0) x
+state-after a (refused number) = refl
+state-after a (accepted draws frames) = refl
+
+draw-after : (a : Session) (x : Result) → sessionAfter a x .draw ≡ drawAfterResult (a .draw) x
+draw-after a (refused number) = refl
+draw-after a (accepted draws frames) = refl
 
 module _ (e : ScoreExport) where
   abbrev p : Places
@@ -74,15 +81,8 @@ module _ (e : ScoreExport) where
       returned : Returned p result (a .outcome)
       returned = record { answer = call .answer; frames = call .frames; string = call .string }
 
-      pub refused-call : (r : Refusal) → a .outcome ≡ Refused r → p .number ≡ numberOf r → p .draws ≡ 0 → p .state ≡ p .state₀ → e .draw ≡ e .draw₀ → ScoreExported e
-      refused-call r h n d s c =
-          let q = outcome p result (a .outcome) returned (Refused r) h in
-          exported (made result) called (made-holds p result (a .outcome) returned (Refused r) h n d s) (rw q c, call .buffer)
-
-      pub accepted-call : (t : ℕ) → a .outcome ≡ Played t → p .number ≡ 0 → p .draws ≡ t → p .state ≡ a .session .rng .0 → e .draw ≡ a .session .draw → ScoreExported e
-      accepted-call t h n d s c =
-          let q = outcome p result (a .outcome) returned (Played t) h in
-          let moved : a .session ≡ record { rng = record { 0 = stateAfter (g .0) t }; draw = e .draw₀ + t } = call .session ∙ ap (sessionAfter (sessionOf e g)) q in
-          let after = s ∙ ap (λ (x : Session). x .rng .0) moved ∙ ap (λ (x : ℕ). stateAfter x t) state in
-          let count : e .draw ≡ e .draw₀ + t = c ∙ ap (λ (x : Session). x .draw) moved in
-          exported (made result) called (made-holds p result (a .outcome) returned (Played t) h n d after) (rw q count, call .buffer)
+      pub call-holds : p .number ≡ numberIn (seen (a .outcome) []) → p .draws ≡ reported (seen (a .outcome) []) → p .state ≡ a .session .rng .0 → e .draw ≡ a .session .draw → ScoreExported e
+      call-holds n d s c =
+          let after = s ∙ ap (λ (x : Session). x .rng .0) (call .session) ∙ state-after (sessionOf e g) result ∙ ap (λ (x : ℕ). stateAfterResult x result) state in
+          let count = c ∙ ap (λ (x : Session). x .draw) (call .session) ∙ draw-after (sessionOf e g) result in
+          exported (made result) called (made-holds returned n d after) (count, call .buffer)

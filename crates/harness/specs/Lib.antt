@@ -1,4 +1,3 @@
-pub mod Knobs
 pub mod Called
 pub mod Note
 pub mod Score

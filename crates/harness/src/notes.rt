@@ -1,8 +1,9 @@
 // The note call from C.
 ghost use Rattle.harness.specs.Note.{NoteExported};
-use crate::knobs::VoiceAt;
-use crate::knobs::voice_at;
-use outcome::Outcome;
+use crate::outcomes::draws_of;
+use crate::outcomes::number_of;
+use knobs::VoiceAt;
+use knobs::voice_at;
 use rng::Rng;
 
 // 0 where the call is accepted, else the refusal's number. `state` is the generator's, and changes
@@ -46,17 +47,9 @@ pub extern "C" fn h_note(
     };
     let rng = Rng::new(*state);
     let answer = note::seq_note_signal(rng, rate, voice, gain, pitch, duty, out, string);
+    let after = answer.rng;
     let outcome = answer.outcome;
-    match outcome {
-        Outcome::Played(made) => {
-            let after = answer.rng;
-            *state = after.state();
-            *draws = made;
-            0
-        }
-        Outcome::Refused(refusal) => {
-            *draws = 0;
-            refusal.number()
-        }
-    }
+    *state = after.state();
+    *draws = draws_of(outcome);
+    number_of(outcome)
 }

@@ -1,10 +1,11 @@
 // The score call from C.
 ghost use Rattle.harness.specs.Score.{ScoreExported};
-use crate::knobs::EnvAt;
-use crate::knobs::VoiceAt;
-use crate::knobs::env_at;
-use crate::knobs::voice_at;
-use outcome::Outcome;
+use crate::outcomes::draws_of;
+use crate::outcomes::number_of;
+use knobs::EnvAt;
+use knobs::VoiceAt;
+use knobs::env_at;
+use knobs::voice_at;
 use rng::Rng;
 use score::Seq;
 use session::Session;
@@ -83,18 +84,10 @@ pub extern "C" fn h_score(
         draw: *draw,
     };
     let answer = seq::render_seq(session, seq, notes, lane, out, note_buf, string);
+    let after = answer.session;
     let outcome = answer.outcome;
-    match outcome {
-        Outcome::Played(made) => {
-            let after = answer.session;
-            *state = after.rng.state();
-            *draw = after.draw;
-            *draws = made;
-            0
-        }
-        Outcome::Refused(refusal) => {
-            *draws = 0;
-            refusal.number()
-        }
-    }
+    *state = after.rng.state();
+    *draw = after.draw;
+    *draws = draws_of(outcome);
+    number_of(outcome)
 }

@@ -72,7 +72,7 @@ fn replay(input: &[u8]) {
 }
 
 fn main() {
-    let mut input = [0u8; 524288];
+    let mut input = vectors::input_buffer();
     let n = io::read_full(STDIN_FILENO, &mut input);
     replay(&input[..n]);
 }

@@ -5,21 +5,21 @@
 //   knobs, envelope numbers, note words and lane values there are, and these
 // A session's state is appended, or a call's number, its draws, the session after it and the frames.
 ghost use Prim.Native.Nat.{_≤_};
+use dsl::Adsr;
+use dsl::SeqVoice;
+use knobs::EnvAt;
+use knobs::VoiceAt;
 use libc::STDIN_FILENO;
+use outcome::Outcome;
 use rng::Rng;
+use score::Seq;
+use session::Session;
 
 // How many values of a kind a line can have.
 const MOST: usize = 64;
 
-struct Session {
-    state: u64,
-    draw: u64,
-}
-
-// The low half of the number in field k.
-fn u32_field(line: &[u8], k: usize) -> u32 {
-    (vectors::u64_field(line, k) % 0x1_0000_0000) as u32
-}
+// What stands for the draws where no call is made.
+const NO_DRAWS: u64 = 0x5555;
 
 // The floats of the fields from `from` on.
 fn floats(line: &[u8], from: usize) -> [f32; 64]
@@ -40,16 +40,53 @@ fn words(line: &[u8], from: usize) -> [u32; 64]
     let mut out = [0u32; 64];
     let mut i = 0;
     while i < MOST {
-        out[i] = u32_field(line, from + i);
+        out[i] = vectors::u32_field(line, from + i);
         i += 1;
     }
     out
 }
 
-fn print_answer(number: u32, draws: u64, session: Session) {
-    vectors::print_u64(number as u64);
-    vectors::print_u64(draws);
-    vectors::print_u64(session.state);
+fn voice_of(line: &[u8]) -> VoiceAt {
+    let count = vectors::length_field(line, 11, MOST);
+    let values = floats(line, 15);
+    knobs::voice_at(vectors::u32_field(line, 6), &values[..count])
+}
+
+fn env_of(line: &[u8]) -> EnvAt {
+    let from = 15 + vectors::length_field(line, 11, MOST);
+    let count = vectors::length_field(line, 12, MOST);
+    let values = floats(line, from);
+    knobs::env_at(&values[..count])
+}
+
+fn seq_of(line: &[u8], voice: SeqVoice, env: Adsr) -> Seq {
+    Seq {
+        rate: vectors::u32_field(line, 1),
+        tempo: vectors::f32_field(line, 2),
+        steps_per_beat: vectors::u32_field(line, 3),
+        swing: vectors::f32_field(line, 4),
+        humanize: vectors::f32_field(line, 5),
+        voice,
+        duty: vectors::f32_field(line, 7),
+        env,
+    }
+}
+
+fn print_outcome(outcome: Outcome) {
+    match outcome {
+        Outcome::Played(draws) => {
+            vectors::print_u64(0);
+            vectors::print_u64(draws);
+        }
+        Outcome::Refused(refusal) => {
+            vectors::print_u64(refusal.number() as u64);
+            vectors::print_u64(0);
+        }
+    }
+}
+
+fn print_session(session: Session) {
+    vectors::print_u64(session.rng.state());
     vectors::print_u64(session.draw);
 }
 
@@ -63,78 +100,77 @@ fn print_frames(out: &[f32; 64], n: usize)
     }
 }
 
-// The session after the call on what the line names. The draws and the frames start as no call leaves
-// them, so that a call that changes nothing shows.
-fn call(
-    line: &[u8],
-    session: Session,
-    knobs: &[f32],
-    env: &[f32],
-    notes: &[u32],
-    lane: &[f32],
-) -> Session {
+// The frames before a call: ones, where a call without notes leaves zeros.
+fn frames() -> [f32; 64] {
+    [1.0f32; 64]
+}
+
+// The session after the call.
+fn call(line: &[u8], session: Session, seq: Seq, notes: &[u32], lane: &[f32]) -> Session {
     let n = vectors::length_field(line, 8, 64);
     let note_len = vectors::length_field(line, 9, 80);
     let string_len = vectors::length_field(line, 10, 9616);
-    let mut state = session.state;
-    let mut draw = session.draw;
-    let mut draws = 0x5555u64;
-    let mut out = [1.0f32; 64];
+    let mut out = frames();
     let mut note_buf = [0.0f32; 80];
     let mut string = [0.0f32; 9616];
-    let number = harness::h_score(
-        &mut state,
-        &mut draw,
-        &mut draws,
-        u32_field(line, 1),
-        vectors::f32_field(line, 2),
-        u32_field(line, 3),
-        vectors::f32_field(line, 4),
-        vectors::f32_field(line, 5),
-        u32_field(line, 6),
-        vectors::f32_field(line, 7),
-        knobs,
-        env,
+    let answer = seq::render_seq(
+        session,
+        seq,
         notes,
         lane,
         &mut out[..n],
         &mut note_buf[..note_len],
         &mut string[..string_len],
     );
-    let after = Session { state, draw };
-    print_answer(number, draws, after);
+    let outcome = answer.outcome;
+    let after = answer.session;
+    print_outcome(outcome);
+    print_session(after);
     print_frames(&out, n);
     after
 }
 
-fn score(line: &[u8], session: Session) -> Session {
-    let knob_count = vectors::length_field(line, 11, MOST);
-    let env_count = vectors::length_field(line, 12, MOST);
+// The session after the call with the line's notes and lane, which follow knobs and envelope.
+fn score(line: &[u8], session: Session, seq: Seq) -> Session {
     let word_count = vectors::length_field(line, 13, MOST);
     let lane_count = vectors::length_field(line, 14, MOST);
-    let env_at = 15 + knob_count;
-    let words_at = env_at + env_count;
-    let lane_at = words_at + word_count;
-    let knobs = floats(line, 15);
-    let env = floats(line, env_at);
+    let words_at = 15
+        + vectors::length_field(line, 11, MOST)
+        + vectors::length_field(line, 12, MOST);
     let notes = words(line, words_at);
-    let lane = floats(line, lane_at);
+    let lane = floats(line, words_at + word_count);
     call(
         line,
         session,
-        &knobs[..knob_count],
-        &env[..env_count],
+        seq,
         &notes[..word_count],
         &lane[..lane_count],
     )
 }
 
+// Where there is no such voice or envelope, no call is made and nothing changes.
+fn no_call(line: &[u8], session: Session) -> Session {
+    vectors::print_u64(u32::MAX as u64);
+    vectors::print_u64(NO_DRAWS);
+    print_session(session);
+    print_frames(&frames(), vectors::length_field(line, 8, 64));
+    session
+}
+
+fn score_line(line: &[u8], session: Session) -> Session {
+    let VoiceAt::Voice(voice) = voice_of(line) else {
+        return no_call(line, session);
+    };
+    let EnvAt::Env(env) = env_of(line) else {
+        return no_call(line, session);
+    };
+    score(line, session, seq_of(line, voice, env))
+}
+
 fn open(line: &[u8]) -> Session {
-    let draw = vectors::u64_field(line, 2);
-    let rng = Rng::at_draw(vectors::u64_field(line, 1), draw);
-    let state = rng.state();
-    vectors::print_u64(state);
-    Session { state, draw }
+    let session = Session::open(vectors::u64_field(line, 1), vectors::u64_field(line, 2));
+    vectors::print_u64(session.rng.state());
+    session
 }
 
 fn replay_line(line: &[u8], session: Session) -> Session {
@@ -142,11 +178,14 @@ fn replay_line(line: &[u8], session: Session) -> Session {
     if vectors::is_named(line, b"open") {
         return open(line);
     }
-    score(line, session)
+    score_line(line, session)
 }
 
 fn replay(text: &[u8]) {
-    let mut session = Session { state: 0, draw: 0 };
+    let mut session = Session {
+        rng: Rng::new(0),
+        draw: 0,
+    };
     let mut at = 0;
     while at < text.len() {
         let end = vectors::line_end(text, at);
@@ -160,7 +199,7 @@ fn replay(text: &[u8]) {
 }
 
 fn main() {
-    let mut text = [0u8; 262144];
+    let mut text = vectors::input_buffer();
     let n = io::read_full(STDIN_FILENO, &mut text);
     replay(&text[..n]);
 }

@@ -77,6 +77,11 @@ pub fn u64_field(line: &[u8], k: usize) -> u64 {
     hex(field(line, k))
 }
 
+// The low half of the number in field k.
+pub fn u32_field(line: &[u8], k: usize) -> u32 {
+    (u64_field(line, k) % 0x1_0000_0000) as u32
+}
+
 // The number in field k, at most `most`.
 pub fn length_field(line: &[u8], k: usize, most: usize) -> usize
     ensures { λ r. ⌜ r ≤ most ⌝ }

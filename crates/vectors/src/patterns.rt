@@ -1,4 +1,5 @@
 // Floats and signed numbers as bit patterns.
+use crate::fields::u32_field;
 use crate::fields::u64_field;
 
 // The value of a pattern. Every NaN pattern gives the NaN of 0 / 0, where `f64::from_bits` is
@@ -35,7 +36,7 @@ pub(crate) fn i64_bits(n: i64) -> u64 {
 
 // The f32 whose pattern is the low half of the number in field k.
 pub fn f32_field(line: &[u8], k: usize) -> f32 {
-    rounding::f32_from_bits((u64_field(line, k) % 0x1_0000_0000) as u32)
+    rounding::f32_from_bits(u32_field(line, k))
 }
 
 // The f64 whose pattern is the number in field k.

@@ -2,7 +2,9 @@
 // wave and gives rate, gain, state, frames, the pitches and duties of the first frames, of which the
 // last goes on, and the knobs; the samples and the state after them are appended.
 ghost use Prim.Native.Nat.{_≤_, _<_};
+use knobs::VoiceAt;
 use libc::STDIN_FILENO;
+use rng::Rng;
 
 const FRAMES: usize = 128;
 
@@ -25,7 +27,7 @@ fn values(line: &[u8], from: usize, count: usize) -> [f32; 128]
     out
 }
 
-fn knobs(line: &[u8], from: usize) -> [f32; 22]
+fn knob_values(line: &[u8], from: usize) -> [f32; 22]
     requires { ⌜ from ≤ 1024 ⌝ }
 {
     let mut out = [0.0f32; 22];
@@ -47,33 +49,35 @@ fn print_samples(out: &[f32; 128], frames: usize)
     }
 }
 
+// Fills `out` with the line's note; the generator after it. Where the wave is none, nothing changes.
+fn sound(line: &[u8], set: &[f32], pitch: &[f32], duty: &[f32], out: &mut [f32]) -> Rng {
+    let rng = Rng::new(vectors::u64_field(line, 4));
+    let VoiceAt::Voice(voice) = knobs::voice_at(vectors::u32_field(line, 1), set) else {
+        return rng;
+    };
+    let rate = vectors::u32_field(line, 2);
+    let gain = vectors::f32_field(line, 3);
+    let mut string = [0.0f32; 9600];
+    let answer = note::seq_note_signal(rng, rate, voice, gain, pitch, duty, out, &mut string);
+    answer.rng
+}
+
 fn play(line: &[u8], frames: usize, count: usize)
     requires { ⌜ (0 < count) × (count ≤ 128) × (frames ≤ 128) ⌝ }
 {
-    let wave = (vectors::u64_field(line, 1) % 0x1_0000_0000) as u32;
-    let rate = (vectors::u64_field(line, 2) % 0x1_0000_0000) as u32;
-    let gain = vectors::f32_field(line, 3);
-    let mut state = vectors::u64_field(line, 4);
     let pitch = values(line, 7, count);
     let duty = values(line, 7 + count, count);
-    let set = knobs(line, 7 + 2 * count);
-    let mut draws = 0u64;
+    let set = knob_values(line, 7 + 2 * count);
     let mut out = [0.0f32; 128];
-    let mut string = [0.0f32; 9600];
-    harness::h_note(
-        rate,
-        wave,
+    let after = sound(
+        line,
         &set,
-        gain,
-        &mut state,
-        &mut draws,
         &pitch[..frames],
         &duty[..frames],
         &mut out[..frames],
-        &mut string,
     );
     print_samples(&out, frames);
-    vectors::print_u64(state);
+    vectors::print_u64(after.state());
 }
 
 // A line whose numbers are out of range gets no answer.

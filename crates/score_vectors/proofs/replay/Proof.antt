@@ -11,6 +11,9 @@ Inv-loop text session₀ at₀ t5 session at = Unit {0}
 abbrev μ-loop : tie.MeasureT-loop
 μ-loop text session₀ at₀ t5 session at = length text - at
 
+new-requires : tie.Need-new-requires Inv-loop μ-loop
+new-requires c κs = search needs
+
 loop-holds : tie.Need-loop-holds Inv-loop μ-loop
 loop-holds c = search needs
 
@@ -56,6 +59,7 @@ replay-spec =
     (tie.spec
     Inv-loop
     μ-loop
+    new-requires
     loop-holds
     line-end-requires
     sub-replay-line

@@ -1,7 +1,7 @@
 -- `harness::notes::h_note` meets its contract. Assumes nothing.
 use mathlib.Core.Path.{refl, sym, _∙_}
 use Rattle.harness.proofs.Ends.{none-holds}
-use Rattle.harness.proofs.NoteEnds.{not-called, refused-call, accepted-call}
+use Rattle.harness.proofs.NoteEnds.{not-called, call-holds}
 use borrow.Author.Needs.{needs}
 use Rattle.harness.proofs.notes.h_note.Statement.{statement}
 use Rattle.harness.proofs.notes.h_note.Tie as tie
@@ -24,17 +24,14 @@ new-requires c κs = search needs
 seq-note-signal-requires : tie.Need-seq-note-signal-requires
 seq-note-signal-requires c κs = search needs
 
-enum-known-outcome : tie.Need-enum-known-outcome
-enum-known-outcome c = search needs
-
 state-requires : tie.Need-state-requires
 state-requires c κs = search needs
 
-enum-known-outcome-2 : tie.Need-enum-known-outcome-2
-enum-known-outcome-2 c = search needs
+draws-of-requires : tie.Need-draws-of-requires
+draws-of-requires c κs = search needs
 
-number-requires : tie.Need-number-requires
-number-requires c κs = search needs
+number-of-requires : tie.Need-number-of-requires
+number-of-requires c κs = search needs
 
 same-length : tie.Need-same-length
 same-length c = search needs
@@ -43,16 +40,7 @@ same-length-2 : tie.Need-same-length-2
 same-length-2 c = search needs
 
 returns-2 : tie.Need-returns-2
-returns-2 c = accepted-call _ _ _ _ (sym (c .before .before .before .before .before .before .before .before .before .before .before .before .before .before .before .voice .given .1) ∙ c .before .before .before .before .before .before .before .before .before .before .before .before .before .before .before .before .before .voice-at .ensures) (c .before .before .before .before .before .before .before .before .before .before .before .before .new .ensures) (c .before .before .before .before .before .before .before .before .before .seq-note-signal .ensures) _ (c .before .before .before .outcome .given .1) refl refl (c .state .ensures)
-
-same-length-3 : tie.Need-same-length-3
-same-length-3 c = search needs
-
-same-length-4 : tie.Need-same-length-4
-same-length-4 c = search needs
-
-returns-3 : tie.Need-returns-3
-returns-3 c = refused-call _ _ _ _ (sym (c .before .before .before .before .before .before .before .before .before .before .before .before .before .before .voice .given .1) ∙ c .before .before .before .before .before .before .before .before .before .before .before .before .before .before .before .before .voice-at .ensures) (c .before .before .before .before .before .before .before .before .before .before .before .new .ensures) (c .before .before .before .before .before .before .before .before .seq-note-signal .ensures) _ (c .before .before .outcome2 .given .1) (c .number .ensures) refl refl
+returns-2 c = call-holds _ _ _ _ (sym (c .before .before .before .before .before .before .before .before .before .before .before .before .before .before .voice .given .1) ∙ c .before .before .before .before .before .before .before .before .before .before .before .before .before .before .before .before .voice-at .ensures) (c .before .before .before .before .before .before .before .before .before .before .before .new .ensures) (c .before .before .before .before .before .before .before .before .seq-note-signal .ensures) (c .number-of .ensures) (c .before .draws-of .ensures) (c .before .before .state .ensures)
 
 pub h-note-spec : {M : Type 1} → statement M
 h-note-spec =
@@ -64,13 +52,9 @@ h-note-spec =
     returns
     new-requires
     seq-note-signal-requires
-    enum-known-outcome
     state-requires
-    enum-known-outcome-2
-    number-requires
+    draws-of-requires
+    number-of-requires
     same-length
     same-length-2
-    returns-2
-    same-length-3
-    same-length-4
-    returns-3)
+    returns-2)

@@ -1,7 +1,7 @@
 -- `harness::scores::h_score` meets its contract. Assumes nothing.
 use mathlib.Core.Path.{refl, sym, _∙_}
 use Rattle.harness.proofs.Ends.{none-holds}
-use Rattle.harness.proofs.ScoreEnds.{no-voice, no-envelope, refused-call, accepted-call}
+use Rattle.harness.proofs.ScoreEnds.{no-voice, no-envelope, call-holds}
 use borrow.Author.Needs.{needs}
 use Rattle.harness.proofs.scores.h_score.Statement.{statement}
 use Rattle.harness.proofs.scores.h_score.Tie as tie
@@ -36,17 +36,14 @@ new-requires c κs = search needs
 render-seq-requires : tie.Need-render-seq-requires
 render-seq-requires c κs = search needs
 
-enum-known-outcome : tie.Need-enum-known-outcome
-enum-known-outcome c = search needs
-
 state-requires : tie.Need-state-requires
 state-requires c κs = search needs
 
-enum-known-outcome-2 : tie.Need-enum-known-outcome-2
-enum-known-outcome-2 c = search needs
+draws-of-requires : tie.Need-draws-of-requires
+draws-of-requires c κs = search needs
 
-number-requires : tie.Need-number-requires
-number-requires c κs = search needs
+number-of-requires : tie.Need-number-of-requires
+number-of-requires c κs = search needs
 
 same-length : tie.Need-same-length
 same-length c = search needs
@@ -58,19 +55,7 @@ same-length-3 : tie.Need-same-length-3
 same-length-3 c = search needs
 
 returns-3 : tie.Need-returns-3
-returns-3 c = accepted-call _ _ (sym (c .before .before .before .before .before .before .before .before .before .before .before .before .before .before .before .before .before .before .before .before .before .before .before .voice .given .1) ∙ c .before .before .before .before .before .before .before .before .before .before .before .before .before .before .before .before .before .before .before .before .before .before .before .before .before .voice-at .ensures) _ _ _ (sym (c .before .before .before .before .before .before .before .before .before .before .before .before .before .before .before .before .before .before .before .env .given .1) ∙ c .before .before .before .before .before .before .before .before .before .before .before .before .before .before .before .before .before .before .before .before .before .env-at .ensures) (c .before .before .before .before .before .before .before .before .before .before .before .before .before .before .before .before .new .ensures) (c .before .before .before .before .before .before .before .before .before .before .before .render-seq .ensures) _ (c .before .before .before .outcome .given .1) refl refl (c .state .ensures) refl
-
-same-length-4 : tie.Need-same-length-4
-same-length-4 c = search needs
-
-same-length-5 : tie.Need-same-length-5
-same-length-5 c = search needs
-
-same-length-6 : tie.Need-same-length-6
-same-length-6 c = search needs
-
-returns-4 : tie.Need-returns-4
-returns-4 c = refused-call _ _ (sym (c .before .before .before .before .before .before .before .before .before .before .before .before .before .before .before .before .before .before .before .before .before .before .voice .given .1) ∙ c .before .before .before .before .before .before .before .before .before .before .before .before .before .before .before .before .before .before .before .before .before .before .before .before .voice-at .ensures) _ _ _ (sym (c .before .before .before .before .before .before .before .before .before .before .before .before .before .before .before .before .before .before .env .given .1) ∙ c .before .before .before .before .before .before .before .before .before .before .before .before .before .before .before .before .before .before .before .before .env-at .ensures) (c .before .before .before .before .before .before .before .before .before .before .before .before .before .before .before .new .ensures) (c .before .before .before .before .before .before .before .before .before .before .render-seq .ensures) _ (c .before .before .outcome2 .given .1) (c .number .ensures) refl refl refl
+returns-3 c = call-holds _ _ (sym (c .before .before .before .before .before .before .before .before .before .before .before .before .before .before .before .before .before .before .before .before .before .before .voice .given .1) ∙ c .before .before .before .before .before .before .before .before .before .before .before .before .before .before .before .before .before .before .before .before .before .before .before .before .voice-at .ensures) _ _ _ (sym (c .before .before .before .before .before .before .before .before .before .before .before .before .before .before .before .before .before .before .env .given .1) ∙ c .before .before .before .before .before .before .before .before .before .before .before .before .before .before .before .before .before .before .before .before .env-at .ensures) (c .before .before .before .before .before .before .before .before .before .before .before .before .before .before .before .new .ensures) (c .before .before .before .before .before .before .before .before .before .before .render-seq .ensures) (c .number-of .ensures) (c .before .draws-of .ensures) (c .before .before .state .ensures) refl
 
 pub h-score-spec : {M : Type 1} → statement M
 h-score-spec =
@@ -86,15 +71,10 @@ h-score-spec =
     returns-2
     new-requires
     render-seq-requires
-    enum-known-outcome
     state-requires
-    enum-known-outcome-2
-    number-requires
+    draws-of-requires
+    number-of-requires
     same-length
     same-length-2
     same-length-3
-    returns-3
-    same-length-4
-    same-length-5
-    same-length-6
-    returns-4)
+    returns-3)

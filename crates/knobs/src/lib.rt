@@ -1,7 +1,8 @@
-// The voice of a wave's place and of 22 knobs, and the envelope of 5 values.
+// The voice of a wave's place and of 22 knobs, and the envelope of 5 values: what the calls from C and
+// the outside vectors have in place of a voice and an envelope.
 ghost use mathlib.Core.Path.{_≡_};
 ghost use lib.ListN.{length};
-ghost use Rattle.harness.specs.Knobs.{fmOf, pluckOf, pianoOf, bassOf, voiceAt, envAt};
+ghost use Rattle.knobs.specs.Knobs.{fmOf, pluckOf, pianoOf, bassOf, voiceAt, envAt};
 use dsl::Adsr;
 use dsl::BassKnobs;
 use dsl::FmKnobs;

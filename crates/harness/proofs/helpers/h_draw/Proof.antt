@@ -1,9 +1,9 @@
--- `exports::helpers::h_draw` meets its contract: the generator that draws stands at the state. Assumes nothing.
+-- `harness::helpers::h_draw` meets its contract: the generator that draws stands at the state. Assumes nothing.
 use borrow.Author.Needs.{needs}
 use mathlib.Core.Path.{ap, _∙_}
 use Rattle.rng.specs.SplitMix64.{next}
-use Rattle.exports.proofs.helpers.h_draw.Statement.{statement}
-use Rattle.exports.proofs.helpers.h_draw.Tie as tie
+use Rattle.harness.proofs.helpers.h_draw.Statement.{statement}
+use Rattle.harness.proofs.helpers.h_draw.Tie as tie
 
 new-requires : tie.Need-new-requires
 new-requires c κs = search needs

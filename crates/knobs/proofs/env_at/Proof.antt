@@ -1,11 +1,11 @@
--- `harness::knobs::env_at` meets its contract. Assumes nothing.
+-- `knobs::env_at` meets its contract. Assumes nothing.
 use mathlib.Core.Path.{refl}
 use borrow.Author.Tests.{eq-eqb, ne-eqb}
 use Rattle.laws.proofs.If.{if-true, if-false}
-use Rattle.harness.specs.Knobs.{envAt}
+use Rattle.knobs.specs.Knobs.{envAt}
 use borrow.Author.Needs.{needs}
-use Rattle.harness.proofs.knobs.env_at.Statement.{statement}
-use Rattle.harness.proofs.knobs.env_at.Tie as tie
+use Rattle.knobs.proofs.env_at.Statement.{statement}
+use Rattle.knobs.proofs.env_at.Tie as tie
 
 returns : tie.Need-returns
 unfolding envAt

@@ -1,10 +1,10 @@
--- `voice_vectors::knobs` is safe: it reads the line's knobs in order. Assumes nothing.
+-- `voice_vectors::knob_values` is safe: it reads the line's knobs in order. Assumes nothing.
 use Prim.Native.Nat.{_≤_, _-_}
 use mathlib.Core.Path.{_≡_}
 use lib.ListN.{length}
 use borrow.Author.Needs.{needs}
-use Rattle.voice_vectors.proofs.knobs.Statement.{statement}
-use Rattle.voice_vectors.proofs.knobs.Tie as tie
+use Rattle.voice_vectors.proofs.knob_values.Statement.{statement}
+use Rattle.voice_vectors.proofs.knob_values.Tie as tie
 
 abbrev Inv-loop : tie.InvT-loop
 Inv-loop line from out₀ i₀ out i = (i ≤ 22) × (length out ≡ 22)
@@ -39,8 +39,8 @@ loop-again c = search needs
 returns : tie.Need-returns Inv-loop μ-loop
 returns c = search needs
 
-pub knobs-spec : {M : Type 1} → statement M
-knobs-spec =
+pub knob-values-spec : {M : Type 1} → statement M
+knob-values-spec =
     tie.close
     (tie.spec
     Inv-loop

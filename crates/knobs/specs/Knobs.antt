@@ -14,11 +14,11 @@ use Rattle.dsl.specs.declared.knobs.Adsr.{Adsr}
 use Rattle.dsl.specs.declared.wave.WaveAt.{WaveAt}
 use Rattle.dsl.specs.declared.wave.WaveAt.the-variants.{Wave}
 use Rattle.dsl.specs.declared.wave.WaveAt.the-variants as places
-use Rattle.harness.specs.declared.knobs.VoiceAt.{VoiceAt}
-use Rattle.harness.specs.declared.knobs.VoiceAt.the-variants.{Voice, Nothing}
-use Rattle.harness.specs.declared.knobs.EnvAt.{EnvAt}
-use Rattle.harness.specs.declared.knobs.EnvAt.the-variants.{Env}
-use Rattle.harness.specs.declared.knobs.EnvAt.the-variants as envelopes
+use Rattle.knobs.specs.declared.VoiceAt.{VoiceAt}
+use Rattle.knobs.specs.declared.VoiceAt.the-variants.{Voice, Nothing}
+use Rattle.knobs.specs.declared.EnvAt.{EnvAt}
+use Rattle.knobs.specs.declared.EnvAt.the-variants.{Env}
+use Rattle.knobs.specs.declared.EnvAt.the-variants as envelopes
 
 abbrev pub fmOf : List Float → FmKnobs
 fmOf k = record { «fm_ratio» = getD k 0 nan; «fm_index» = getD k 1 nan; «fm_strike» = getD k 2 nan }

@@ -1,11 +1,11 @@
--- `harness::knobs::voice_at` meets its contract. Assumes nothing.
+-- `knobs::voice_at` meets its contract. Assumes nothing.
 use mathlib.Core.Path.{refl}
 use borrow.Author.Tests.{eq-eqb, ne-eqb}
 use Rattle.laws.proofs.If.{if-true, if-false}
-use Rattle.harness.specs.Knobs.{voiceAt}
+use Rattle.knobs.specs.Knobs.{voiceAt}
 use borrow.Author.Needs.{needs}
-use Rattle.harness.proofs.knobs.voice_at.Statement.{statement}
-use Rattle.harness.proofs.knobs.voice_at.Tie as tie
+use Rattle.knobs.proofs.voice_at.Statement.{statement}
+use Rattle.knobs.proofs.voice_at.Tie as tie
 
 returns : tie.Need-returns
 unfolding voiceAt

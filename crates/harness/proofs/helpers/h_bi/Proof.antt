@@ -1,9 +1,9 @@
--- `exports::helpers::h_bi` meets its contract: the generator that `bi` draws from stands at the state. Assumes nothing.
+-- `harness::helpers::h_bi` meets its contract: the generator that `bi` draws from stands at the state. Assumes nothing.
 use borrow.Author.Needs.{needs}
 use mathlib.Core.Path.{ap, _∙_}
 use Rattle.rng.specs.Draw.{biFrom}
-use Rattle.exports.proofs.helpers.h_bi.Statement.{statement}
-use Rattle.exports.proofs.helpers.h_bi.Tie as tie
+use Rattle.harness.proofs.helpers.h_bi.Statement.{statement}
+use Rattle.harness.proofs.helpers.h_bi.Tie as tie
 
 new-requires : tie.Need-new-requires
 new-requires c κs = search needs
