@@ -20,6 +20,8 @@ pub use whole_f32::floor_f32;
 pub use whole_f32::fract_f32;
 pub use whole_f32::round_f32;
 pub use whole_f32::trunc_f32;
+pub use whole_f64::Near;
 pub use whole_f64::floor_f64;
+pub use whole_f64::near_f64;
 pub use whole_f64::round_f64;
 pub use whole_f64::trunc_f64;
