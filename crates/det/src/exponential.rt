@@ -55,7 +55,7 @@ fn exp_from(x: f64, k: f64) -> f64
     y * ldexp2(float::rounded_to_i64(k))
 }
 
-// k is x / ln 2, rounded.
+// k is x / ln 2, rounded: above zero, below it, and where `near_f64` gives nothing.
 fn exp_reduced(x: f64) -> f64
     ensures { λ r. ⌜ r ≡ expReduced x ⌝ }
 {

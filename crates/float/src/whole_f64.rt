@@ -100,10 +100,10 @@ pub fn floor_f64(x: f64) -> f64
     x
 }
 
-// The number that `round_f64` gives, for an x above 0 and below 2^52 that is below the nearest whole
-// number n and a half. Some halves are not; there, and elsewhere, this gives nothing. What a caller
-// makes of n can be begun before the test is decided, where `round_f64` waits to choose between n
-// and n + 1.
+// The number that `round_f64` gives, where x is above 0, below 2^52 and below n + 0.5, n being the
+// nearest whole number: then it is n. At some halves it is n + 1; there and elsewhere this gives
+// nothing. A caller branches on the answer, so what it computes from n can be begun before the test
+// is decided, where `round_f64` waits to choose between n and n + 1.
 pub fn near_f64(x: f64) -> Near
     ensures { λ r. ⌜ Rounds x r ⌝ }
 {

@@ -73,8 +73,8 @@ fn less_rounded(x: f64, t: f64) -> f64
     less_turns(x, float::round_f64(t))
 }
 
-// The same. Near zero that number is a constant, and the
-// compiler works out the products with it. A NaN fails every test.
+// The same. Near zero that number is a constant, and the compiler works out the products with it. A
+// NaN fails every test.
 fn less_nearest(x: f64, t: f64) -> f64
     ensures { λ r. ⌜ r ≡ lessTurns x (roundOf t) ⌝ }
 {
