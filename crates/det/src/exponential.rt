@@ -4,6 +4,7 @@ ghost use lib.Dec.{T};
 ghost use Rattle.det.specs.Exp.{ldexp2Of, expFrom, expReduced, expOf};
 ghost use Rattle.float.specs.Rounded.{noFraction};
 use crate::special::infinity;
+use float::Near;
 
 pub(crate) const LN2_HI: f64 = 6.93147180369123816490e-01; // 3fe62e42fee00000
 
@@ -54,30 +55,18 @@ fn exp_from(x: f64, k: f64) -> f64
     y * ldexp2(float::rounded_to_i64(k))
 }
 
-// k is x / ln 2, rounded. The sum with 2^52 rounds to the nearest whole number, which is k but at
-// some halves. Those fail the last test and go to `round_f64`. exp(r) can be begun before the test
-// is decided, where it would wait for a choice between n and n + 1.
+// k is x / ln 2, rounded: above zero, below it, and where `near_f64` gives nothing.
 fn exp_reduced(x: f64) -> f64
     ensures { λ r. ⌜ r ≡ expReduced x ⌝ }
 {
     let t = x * INV_LN2;
-    if t > 0.0 {
-        if t < 4503599627370496.0 {
-            let n = (t + 4503599627370496.0) - 4503599627370496.0;
-            if t < n + 0.5 {
-                return exp_from(x, n);
-            }
-        }
-        return exp_from(x, float::round_f64(t));
+    let above = float::near_f64(t);
+    if let Near::Whole(n) = above {
+        return exp_from(x, n);
     }
-    let back = -t;
-    if back > 0.0 {
-        if back < 4503599627370496.0 {
-            let n = (back + 4503599627370496.0) - 4503599627370496.0;
-            if back < n + 0.5 {
-                return exp_from(x, -n);
-            }
-        }
+    let below = float::near_f64(-t);
+    if let Near::Whole(n) = below {
+        return exp_from(x, -n);
     }
     exp_from(x, float::round_f64(t))
 }

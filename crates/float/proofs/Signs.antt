@@ -8,16 +8,18 @@ use lib.IntN.{ℤ, pos, negsuc}
 use lib.Dec.{T, ltb, eqb, eqb→eq, lt→ltb}
 use borrow.Author.Tests.{ltb-false}
 use lib.Pow.{pow-pos, pow-mono}
-use lib.Ieee.{Float, nan, inf, fin, Format, prec, up, down, size, odd, neg, add, sub, lt, eq, level, fits}
+use lib.Ieee.{Float, nan, inf, fin, Format, prec, up, down, size, odd, neg, lt, eq, level, fits}
 use lib.Ieee.Fits.{and-l, up-pos, neg-fits}
 use Rattle.laws.proofs.If.{if-true, if-false}
 use Rattle.ieee.specs.Sign.{signOf, absOf}
-use Rattle.ieee.specs.Whole.{whole, cut, raised, halfUp, floorOf}
+use Rattle.ieee.specs.Whole.{whole, cut, raised, halfUp, roundOf, floorOf}
 use Rattle.ieee.proofs.Value.{zero-exp}
 use Rattle.ieee.proofs.Between.{neg-neg}
 use Rattle.ieee.proofs.Units.{fits-parts}
-use Rattle.float.specs.Small.{Small}
-use Rattle.float.proofs.Wholes.{H, H-twice, parts, nearest-is, half-taken}
+use Rattle.float.specs.Near.{Rounds}
+use Rattle.float.specs.declared.whole_f64.Near.{Near}
+use Rattle.float.specs.declared.whole_f64.Near.the-variants.{Whole}
+use Rattle.float.proofs.Wholes.{H, H-twice}
 
 abbrev plus-zero : Float
 plus-zero = fin false 0 (pos 0)
@@ -63,16 +65,13 @@ large f g (fin false m (negsuc k)) fit p t =
 pub large-negative : (f : Format) (g : ℕ → ℕ → ℕ) (x : Float) → T (fits f x) → lt plus-zero (neg x) ≡ true → lt (neg x) (fin false 1 (pos (prec f - 1))) ≡ false → x ≡ whole g x
 large-negative f g x fit p t = sym (neg-neg x) ∙ ap neg (large f g (neg x) (neg-fits f x fit) p t) ∙ neg-whole g x
 
--- ---- the nearest whole number n of a small x is its rounded value where x is below n + 1/2. n is written as `nearest` computes it
-module _ (f : Format) where
-  abbrev near-by : Float → Float
-  near-by x = sub f (add f x (fin false 1 (pos (prec f - 1)))) (fin false 1 (pos (prec f - 1)))
+-- ---- what `near_f64` gives of x, and of its negative
+pub near-whole : (x : Float) (r : Near) (n : Float) → Rounds x r → r ≡ Whole n → n ≡ roundOf x
+unfolding Rounds
+near-whole x r n h e = subst (Rounds x) e h
 
-  pub half-near : (x : Float) → T (fits f x) → Small f x → lt x (add f (near-by x) (fin false 1 (negsuc 0))) ≡ true → near-by x ≡ whole halfUp x
-  half-near x fit s t = let z = parts f x s in half-taken z fit (near-by x) (nearest-is z fit) t
-
-  pub half-near-mirrored : (x : Float) → T (fits f x) → Small f (neg x) → lt (neg x) (add f (near-by (neg x)) (fin false 1 (negsuc 0))) ≡ true → neg (near-by (neg x)) ≡ whole halfUp x
-  half-near-mirrored x fit s t = ap neg (half-near (neg x) (neg-fits f x fit) s t) ∙ neg-whole halfUp x
+pub near-whole-mirrored : (x : Float) (r : Near) (n : Float) → Rounds (neg x) r → r ≡ Whole n → neg n ≡ roundOf x
+near-whole-mirrored x r n h e = ap neg (near-whole (neg x) r n h e) ∙ neg-whole halfUp x
 
 -- ---- neither above zero nor below it: a zero or a NaN
 above : (m : ℕ) (e : ℤ) → 0 * down e < suc m * up e * 1

@@ -1,7 +1,7 @@
 // IEEE 754 on f32 and f64: what Rust has as methods and casts and Rattle does not. Every function
-// has a result for every bit pattern; none asks anything of its caller, but that the casts of a
-// rounded f64 ask for one. Each contract is one equation with a definition of the crate `ieee`, in
-// which one NaN stands for all of them.
+// has a result for every bit pattern, and none but the casts of a rounded f64 asks anything of its
+// caller. Each contract is one equation with a definition of the crate `ieee`, in which one NaN
+// stands for all of them; `near_f64` gives a number of which that holds, or nothing.
 mod cast; // cast.rt: floats to integers
 mod order; // order.rt: max, min, clamp, abs
 mod rounded; // rounded.rt: casts of a rounded f64
@@ -20,6 +20,8 @@ pub use whole_f32::floor_f32;
 pub use whole_f32::fract_f32;
 pub use whole_f32::round_f32;
 pub use whole_f32::trunc_f32;
+pub use whole_f64::Near;
 pub use whole_f64::floor_f64;
+pub use whole_f64::near_f64;
 pub use whole_f64::round_f64;
 pub use whole_f64::trunc_f64;

@@ -4,6 +4,13 @@ ghost use lib.Ieee.{binary64};
 ghost use lib.Ieee.Nearest.{closest};
 ghost use Rattle.ieee.specs.Whole.{whole, cut, raised, halfUp, truncOf, roundOf, floorOf};
 ghost use Rattle.float.specs.Small.{Small};
+ghost use Rattle.float.specs.Near.{Rounds};
+
+// What `near_f64` gives: the rounded number, or nothing.
+pub enum Near {
+    Whole(f64),
+    Other,
+}
 
 fn nearest_f64(a: f64) -> f64
     requires { ⌜ Small binary64 a ⌝ }
@@ -91,4 +98,22 @@ pub fn floor_f64(x: f64) -> f64
         return x;
     }
     x
+}
+
+// The number that `round_f64` gives, where x is above 0, below 2^52 and below n + 0.5, n being the
+// nearest whole number: then it is n. At some halves it is n + 1; there and elsewhere this gives
+// nothing. A caller branches on the answer, so what it computes from n can be begun before the test
+// is decided, where `round_f64` waits to choose between n and n + 1.
+pub fn near_f64(x: f64) -> Near
+    ensures { λ r. ⌜ Rounds x r ⌝ }
+{
+    if x > 0.0 {
+        if x < 4503599627370496.0 {
+            let n = nearest_f64(x);
+            if x < n + 0.5 {
+                return Near::Whole(n);
+            }
+        }
+    }
+    Near::Other
 }

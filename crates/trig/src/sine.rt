@@ -2,6 +2,7 @@
 ghost use mathlib.Core.Path.{_≡_};
 ghost use Rattle.ieee.specs.Whole.{roundOf};
 ghost use Rattle.trig.specs.Trig.{sinPoly, cosPoly, lessTurns, reduce2pi, remEuclid4, quadrant, sinReduced, sinOf, cosOf};
+use float::Near;
 
 // 2π in three parts: the later ones carry what the f64 nearest to 2π drops.
 const PI2_HI: f64 = 6.28318530717958647692528676655900577; // TAU, 401921fb54442d18
@@ -61,9 +62,19 @@ fn less_turns(x: f64, k: f64) -> f64
     ((x - k * PI2_HI) - k * PI2_MID) - k * PI2_LO
 }
 
-// x less the whole number of turns nearest to t. Near zero that number is a constant, and the
-// compiler works out the products with it. From 1.5 on it is the nearest whole number n, but at some
-// halves, which fail the last test. A NaN fails every test.
+// x less the whole number of turns nearest to t.
+fn less_rounded(x: f64, t: f64) -> f64
+    ensures { λ r. ⌜ r ≡ lessTurns x (roundOf t) ⌝ }
+{
+    let near = float::near_f64(t);
+    if let Near::Whole(n) = near {
+        return less_turns(x, n);
+    }
+    less_turns(x, float::round_f64(t))
+}
+
+// The same. Near zero that number is a constant, and the compiler works out the products with it. A
+// NaN fails every test.
 fn less_nearest(x: f64, t: f64) -> f64
     ensures { λ r. ⌜ r ≡ lessTurns x (roundOf t) ⌝ }
 {
@@ -80,20 +91,12 @@ fn less_nearest(x: f64, t: f64) -> f64
                 return less_turns(x, -1.0);
             }
         }
-        return less_turns(x, float::round_f64(t));
+        return less_rounded(x, t);
     }
     if t < 1.5 {
         return less_turns(x, 1.0);
     }
-    if t > 0.0 {
-        if t < 4503599627370496.0 {
-            let n = (t + 4503599627370496.0) - 4503599627370496.0;
-            if t < n + 0.5 {
-                return less_turns(x, n);
-            }
-        }
-    }
-    less_turns(x, float::round_f64(t))
+    less_rounded(x, t)
 }
 
 // x less the nearest multiple of 2π, for an x that is not too large: within [-π, π].

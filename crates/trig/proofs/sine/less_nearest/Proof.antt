@@ -5,7 +5,6 @@ use mathlib.Core.Path.{ap, _∙_}
 use lib.Dec.{lit<}
 use lib.Ieee.{binary64, ofBits, neg, odd, size}
 use Rattle.ieee.proofs.Between.{near, near-mirrored, near-is}
-use Rattle.float.proofs.Signs.{half-near}
 use Rattle.trig.specs.Trig.{lessTurns}
 use Rattle.trig.proofs.sine.less_nearest.Statement.{statement}
 use Rattle.trig.proofs.sine.less_nearest.Tie as tie
@@ -37,43 +36,27 @@ returns-3 c =
     c .less-turns3 .ensures
     ∙ ap (lessTurns (d .args .x)) (near-is (near-mirrored 1 (d .args .t) (c .before .before .if4 .left) (c .before .if5 .taken)) binary64 (passes _ (d .good .1 .0 .1)) (lit< tt))
 
-round-f64-requires : tie.Need-round-f64-requires
-round-f64-requires c κs = search needs
+less-rounded-requires : tie.Need-less-rounded-requires
+less-rounded-requires c κs = search needs
+
+returns-4 : tie.Need-returns-4
+returns-4 c = c .less-rounded .ensures
 
 less-turns-requires-4 : tie.Need-less-turns-requires-4
 less-turns-requires-4 c κs = search needs
-
-returns-4 : tie.Need-returns-4
-returns-4 c = rw (c .less-turns4 .ensures, c .before .round-f64 .ensures)
-
-less-turns-requires-5 : tie.Need-less-turns-requires-5
-less-turns-requires-5 c κs = search needs
 
 returns-5 : tie.Need-returns-5
 unfolding ofBits neg odd size
 returns-5 c =
     let d = c .before .before .before in
-    c .less-turns5 .ensures
+    c .less-turns4 .ensures
     ∙ ap (lessTurns (d .args .x)) (near-is (near 1 (d .args .t) (c .before .before .if1 .left) (c .before .if6 .taken)) binary64 (passes _ (d .good .1 .0 .1)) (lit< tt))
 
-less-turns-requires-6 : tie.Need-less-turns-requires-6
-less-turns-requires-6 c κs = search needs
+less-rounded-requires-2 : tie.Need-less-rounded-requires-2
+less-rounded-requires-2 c κs = search needs
 
 returns-6 : tie.Need-returns-6
-unfolding ofBits
-returns-6 c =
-    let d = c .before .before .before .before .before .before in
-    c .less-turns6 .ensures
-    ∙ ap (lessTurns (d .args .x)) (half-near binary64 (d .args .t) (passes _ (d .good .1 .0 .1)) (record { positive = c .before .before .before .if7 .taken; below = c .before .before .if8 .taken }) (c .before .if9 .taken))
-
-round-f64-requires-2 : tie.Need-round-f64-requires-2
-round-f64-requires-2 c κs = search needs
-
-less-turns-requires-7 : tie.Need-less-turns-requires-7
-less-turns-requires-7 c κs = search needs
-
-returns-7 : tie.Need-returns-7
-returns-7 c = rw (c .less-turns7 .ensures, c .before .round-f642 .ensures)
+returns-6 c = c .less-rounded2 .ensures
 
 pub less-nearest-spec : {M : Type 1} → statement M
 less-nearest-spec =
@@ -85,13 +68,9 @@ less-nearest-spec =
     returns-2
     less-turns-requires-3
     returns-3
-    round-f64-requires
-    less-turns-requires-4
+    less-rounded-requires
     returns-4
-    less-turns-requires-5
+    less-turns-requires-4
     returns-5
-    less-turns-requires-6
-    returns-6
-    round-f64-requires-2
-    less-turns-requires-7
-    returns-7)
+    less-rounded-requires-2
+    returns-6)

@@ -1,0 +1,32 @@
+-- `float::whole_f64::near_f64` meets its contract: `half-taken`. Assumes nothing.
+use denote.Floats.{passes}
+use lib.Ieee.{binary64, ofBits}
+use Rattle.float.specs.Near.{Rounds}
+use Rattle.float.proofs.Wholes.{parts, half-taken}
+use Rattle.float.proofs.whole_f64.near_f64.Statement.{statement}
+use Rattle.float.proofs.whole_f64.near_f64.Tie as tie
+
+nearest-f64-requires : tie.Need-nearest-f64-requires
+unfolding ofBits
+nearest-f64-requires c κs = record { positive = c .before .if1 .taken; below = c .if2 .taken }
+
+returns : tie.Need-returns
+unfolding ofBits Rounds
+returns c =
+    let d = c .before .before .before .before in
+    half-taken (parts binary64 (d .args .x) (record { positive = c .before .before .before .if1 .taken; below = c .before .before .if2 .taken })) (passes _ (d .good .0 .1)) (c .before .nearest-f64 .result) (c .before .nearest-f64 .ensures) (c .if3 .taken)
+
+returns-2 : tie.Need-returns-2
+unfolding Rounds
+returns-2 c = tt
+
+returns-3 : tie.Need-returns-3
+unfolding Rounds
+returns-3 c = tt
+
+returns-4 : tie.Need-returns-4
+unfolding Rounds
+returns-4 c = tt
+
+pub near-f64-spec : {M : Type 1} → statement M
+near-f64-spec = tie.close (tie.spec nearest-f64-requires returns returns-2 returns-3 returns-4)
