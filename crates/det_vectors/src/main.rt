@@ -5,55 +5,31 @@ use libc::STDIN_FILENO;
 // Kernels of one f64.
 fn answer_f64(line: &[u8]) {
     let x = vectors::f64_field(line, 1);
-    if vectors::is_named(line, b"sin") {
-        vectors::print_f64(trig::sin(x));
-    }
-    if vectors::is_named(line, b"cos") {
-        vectors::print_f64(trig::cos(x));
-    }
-    if vectors::is_named(line, b"exp") {
-        vectors::print_f64(det::exp(x));
-    }
-    if vectors::is_named(line, b"ln") {
-        vectors::print_f64(det::ln(x));
-    }
-    if vectors::is_named(line, b"tanh") {
-        vectors::print_f64(det::tanh(x));
-    }
+    vectors::answer_f64(line, b"sin", trig::sin(x));
+    vectors::answer_f64(line, b"cos", trig::cos(x));
+    vectors::answer_f64(line, b"exp", det::exp(x));
+    vectors::answer_f64(line, b"ln", det::ln(x));
+    vectors::answer_f64(line, b"tanh", det::tanh(x));
 }
 
 // Their f32 wrappers.
 fn answer_f32(line: &[u8]) {
     let x = vectors::f32_field(line, 1);
-    if vectors::is_named(line, b"sinf") {
-        vectors::print_f32(trig::sinf(x));
-    }
-    if vectors::is_named(line, b"cosf") {
-        vectors::print_f32(trig::cosf(x));
-    }
-    if vectors::is_named(line, b"expf") {
-        vectors::print_f32(det::expf(x));
-    }
-    if vectors::is_named(line, b"lnf") {
-        vectors::print_f32(det::lnf(x));
-    }
-    if vectors::is_named(line, b"tanhf") {
-        vectors::print_f32(det::tanhf(x));
-    }
+    vectors::answer_f32(line, b"sinf", trig::sinf(x));
+    vectors::answer_f32(line, b"cosf", trig::cosf(x));
+    vectors::answer_f32(line, b"expf", det::expf(x));
+    vectors::answer_f32(line, b"lnf", det::lnf(x));
+    vectors::answer_f32(line, b"tanhf", det::tanhf(x));
 }
 
 // The power, of two arguments.
 fn answer_power(line: &[u8]) {
-    if vectors::is_named(line, b"powf") {
-        let x = vectors::f64_field(line, 1);
-        let y = vectors::f64_field(line, 2);
-        vectors::print_f64(det::powf(x, y));
-    }
-    if vectors::is_named(line, b"powff") {
-        let x = vectors::f32_field(line, 1);
-        let y = vectors::f32_field(line, 2);
-        vectors::print_f32(det::powff(x, y));
-    }
+    let x = vectors::f64_field(line, 1);
+    let y = vectors::f64_field(line, 2);
+    vectors::answer_f64(line, b"powf", det::powf(x, y));
+    let x = vectors::f32_field(line, 1);
+    let y = vectors::f32_field(line, 2);
+    vectors::answer_f32(line, b"powff", det::powff(x, y));
 }
 
 // A name that no kernel has gets no answer.

@@ -5,56 +5,34 @@ use libc::STDIN_FILENO;
 // Helpers of one f32 that answer an f32.
 fn answer_f32(line: &[u8]) {
     let x = vectors::f32_field(line, 1);
-    if vectors::is_named(line, b"floor") {
-        vectors::print_f32(float::floor_f32(x));
-    }
-    if vectors::is_named(line, b"trunc") {
-        vectors::print_f32(float::trunc_f32(x));
-    }
-    if vectors::is_named(line, b"round") {
-        vectors::print_f32(float::round_f32(x));
-    }
-    if vectors::is_named(line, b"fract") {
-        vectors::print_f32(float::fract_f32(x));
-    }
-    if vectors::is_named(line, b"abs") {
-        vectors::print_f32(float::abs_f32(x));
-    }
-    if vectors::is_named(line, b"sqrt") {
-        vectors::print_f32(rounding::sqrt_f32(x));
-    }
-    if vectors::is_named(line, b"bits") {
-        vectors::print_f32(x);
-    }
+    vectors::answer_f32(line, b"floor", float::floor_f32(x));
+    vectors::answer_f32(line, b"trunc", float::trunc_f32(x));
+    vectors::answer_f32(line, b"round", float::round_f32(x));
+    vectors::answer_f32(line, b"fract", float::fract_f32(x));
+    vectors::answer_f32(line, b"abs", float::abs_f32(x));
+    vectors::answer_f32(line, b"sqrt", rounding::sqrt_f32(x));
+    vectors::answer_f32(line, b"bits", x);
 }
 
 // Helpers of one f64 that answer an f64.
 fn answer_f64(line: &[u8]) {
     let x = vectors::f64_field(line, 1);
-    if vectors::is_named(line, b"floor64") {
-        vectors::print_f64(float::floor_f64(x));
-    }
-    if vectors::is_named(line, b"trunc64") {
-        vectors::print_f64(float::trunc_f64(x));
-    }
-    if vectors::is_named(line, b"round64") {
-        vectors::print_f64(float::round_f64(x));
-    }
+    vectors::answer_f64(line, b"floor64", float::floor_f64(x));
+    vectors::answer_f64(line, b"trunc64", float::trunc_f64(x));
+    vectors::answer_f64(line, b"round64", float::round_f64(x));
 }
 
 // Changes of type.
 fn answer_cast(line: &[u8]) {
-    if vectors::is_named(line, b"widen") {
-        vectors::print_f64(rounding::widen(vectors::f32_field(line, 1)));
-    }
-    if vectors::is_named(line, b"narrow") {
-        vectors::print_f32(rounding::narrow(vectors::f64_field(line, 1)));
-    }
+    let x = vectors::f32_field(line, 1);
+    let y = vectors::f64_field(line, 1);
+    vectors::answer_f64(line, b"widen", rounding::widen(x));
+    vectors::answer_f32(line, b"narrow", rounding::narrow(y));
     if vectors::is_named(line, b"usize") {
-        vectors::print_u64(float::f32_to_usize(vectors::f32_field(line, 1)) as u64);
+        vectors::print_u64(float::f32_to_usize(x) as u64);
     }
     if vectors::is_named(line, b"i64") {
-        vectors::print_i64(float::f64_to_i64(vectors::f64_field(line, 1)));
+        vectors::print_i64(float::f64_to_i64(y));
     }
 }
 
@@ -63,15 +41,9 @@ fn answer_order(line: &[u8]) {
     let a = vectors::f32_field(line, 1);
     let b = vectors::f32_field(line, 2);
     let c = vectors::f32_field(line, 3);
-    if vectors::is_named(line, b"max") {
-        vectors::print_f32(float::max_f32(a, b));
-    }
-    if vectors::is_named(line, b"min") {
-        vectors::print_f32(float::min_f32(a, b));
-    }
-    if vectors::is_named(line, b"clamp") {
-        vectors::print_f32(float::clamp_f32(a, b, c));
-    }
+    vectors::answer_f32(line, b"max", float::max_f32(a, b));
+    vectors::answer_f32(line, b"min", float::min_f32(a, b));
+    vectors::answer_f32(line, b"clamp", float::clamp_f32(a, b, c));
 }
 
 // A name that no helper has gets no answer.

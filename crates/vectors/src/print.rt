@@ -1,4 +1,4 @@
-// Answers on standard output. Each number follows a space.
+// Numbers on standard output, each after a space.
 use crate::patterns::f32_bits;
 use crate::patterns::f64_bits;
 use crate::patterns::i64_bits;
