@@ -1,6 +1,8 @@
 -- `float::whole_f64::near_f64` meets its contract: `half-taken`. Assumes nothing.
+use mathlib.Core.Path.{refl, sym}
 use denote.Floats.{passes}
 use lib.Ieee.{binary64, ofBits}
+use Rattle.laws.proofs.If.{if-true, if-false}
 use Rattle.float.specs.Near.{Rounds}
 use Rattle.float.proofs.Wholes.{parts, half-taken}
 use Rattle.float.proofs.whole_f64.near_f64.Statement.{statement}
@@ -18,15 +20,15 @@ returns c =
 
 returns-2 : tie.Need-returns-2
 unfolding Rounds
-returns-2 c = tt
+returns-2 c = sym (if-true _ (c .before .before .before .if1 .taken) (if-true _ (c .before .before .if2 .taken) (sym (rw (c .before .nearest-f64 .ensures) at (c .if3 .left)))))
 
 returns-3 : tie.Need-returns-3
 unfolding Rounds
-returns-3 c = tt
+returns-3 c = sym (if-true _ (c .before .if1 .taken) (if-false _ (c .if2 .left) refl))
 
 returns-4 : tie.Need-returns-4
 unfolding Rounds
-returns-4 c = tt
+returns-4 c = sym (if-false _ (c .if1 .left) refl)
 
 pub near-f64-spec : {M : Type 1} → statement M
 near-f64-spec = tie.close (tie.spec nearest-f64-requires returns returns-2 returns-3 returns-4)
