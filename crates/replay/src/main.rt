@@ -29,8 +29,7 @@ fn hash(bytes: &[u8]) -> u64 {
     h
 }
 
-fn call(line: &[u8], text: &[u8], reply: &mut [u8]) {
-    let answer = tono::tono_play(text, reply);
+fn print_answer(line: &[u8], answer: i64, reply: &[u8]) {
     vectors::print_text(line);
     vectors::print_i64(answer);
     vectors::print_u64(hash(reply));
@@ -39,6 +38,11 @@ fn call(line: &[u8], text: &[u8], reply: &mut [u8]) {
         vectors::print_text(reply);
         vectors::print_text(b"\n");
     }
+}
+
+fn call(line: &[u8], text: &[u8], reply: &mut [u8]) {
+    let answer = tono::tono_play(text, reply);
+    print_answer(line, answer, reply);
 }
 
 fn replay_case(line: &[u8], text: &[u8]) {
