@@ -9,11 +9,6 @@ use dsl::SeqWave;
 use dsl::WaveAt;
 use libc::STDIN_FILENO;
 
-// The low half of the number in field k.
-fn u32_field(line: &[u8], k: usize) -> u32 {
-    (vectors::u64_field(line, k) % 0x1_0000_0000) as u32
-}
-
 fn print_place(note: SeqNote, swing: f32, humanize: f32, step_dur: f32, n: usize)
     requires { ⌜ numeric (note .pitch) ⌝ }
     requires { ⌜ Frames n ⌝ }
@@ -39,14 +34,14 @@ fn print_draws(note: SeqNote)
 fn answer_groove(line: &[u8], note: SeqNote)
     requires { ⌜ numeric (note .pitch) ⌝ }
 {
-    let n = u32_field(line, 6) as usize;
+    let n = vectors::u32_field(line, 6) as usize;
     if n > 16777216 {
         return;
     }
     let step_dur = groove::step_dur(
-        u32_field(line, 1),
+        vectors::u32_field(line, 1),
         vectors::f32_field(line, 2),
-        u32_field(line, 3),
+        vectors::u32_field(line, 3),
     );
     let swing = vectors::f32_field(line, 4);
     print_place(note, swing, vectors::f32_field(line, 5), step_dur, n);
@@ -55,11 +50,11 @@ fn answer_groove(line: &[u8], note: SeqNote)
 
 fn note_of(line: &[u8]) -> Decoded {
     SeqNote::decode(
-        u32_field(line, 7),
-        u32_field(line, 8),
-        u32_field(line, 9),
-        u32_field(line, 10),
-        u32_field(line, 11),
+        vectors::u32_field(line, 7),
+        vectors::u32_field(line, 8),
+        vectors::u32_field(line, 9),
+        vectors::u32_field(line, 10),
+        vectors::u32_field(line, 11),
     )
 }
 
@@ -75,17 +70,17 @@ fn replay_groove(line: &[u8]) {
 
 // draws WAVE RATE PITCH FRAMES: how many.
 fn replay_draws(line: &[u8]) {
-    let WaveAt::Wave(wave) = SeqWave::at(u32_field(line, 1)) else {
+    let WaveAt::Wave(wave) = SeqWave::at(vectors::u32_field(line, 1)) else {
         return;
     };
-    let rate = u32_field(line, 2);
+    let rate = vectors::u32_field(line, 2);
     if rate < 8000 {
         return;
     }
     if rate > 192000 {
         return;
     }
-    let frames = u32_field(line, 4) as usize;
+    let frames = vectors::u32_field(line, 4) as usize;
     let draws = counts::draw_count(wave, rate, vectors::f32_field(line, 3), frames);
     vectors::print_u64(draws as u64);
 }

@@ -18,8 +18,8 @@ use session::Session;
 // How many values of a kind a line can have.
 const MOST: usize = 64;
 
-// What stands for the draws where no call is made.
-const NO_DRAWS: u64 = 0x5555;
+// What the draws hold before a call, and after one that is not made.
+const DRAWS_BEFORE: u64 = 0x5555;
 
 // The floats of the fields from `from` on.
 fn floats(line: &[u8], from: usize) -> [f32; 64]
@@ -151,7 +151,7 @@ fn score(line: &[u8], session: Session, seq: Seq) -> Session {
 // Where there is no such voice or envelope, no call is made and nothing changes.
 fn no_call(line: &[u8], session: Session) -> Session {
     vectors::print_u64(u32::MAX as u64);
-    vectors::print_u64(NO_DRAWS);
+    vectors::print_u64(DRAWS_BEFORE);
     print_session(session);
     print_frames(&frames(), vectors::length_field(line, 8, 64));
     session
