@@ -1,42 +1,51 @@
 -- `blown::brass::brass_at` meets its contract: each call by what it ensures. Assumes nothing.
-use Rattle.blown.specs.Brass.{brassAt}
-use borrow.Author.Needs.{needs}
+use Rattle.blown.proofs.Frame.{brass-frame}
 use Rattle.blown.proofs.brass.brass_at.Statement.{statement}
 use Rattle.blown.proofs.brass.brass_at.Tie as tie
 
 frame-time-requires : tie.Need-frame-time-requires
-frame-time-requires c κs = search needs
+frame-time-requires c κs = c .before .pre .1
 
 at-requires : tie.Need-at-requires
-at-requires c κs = search needs
+at-requires c κs = c .before .before .pre .0
 
 max-f32-requires : tie.Need-max-f32-requires
-max-f32-requires c κs = search needs
+max-f32-requires c κs = tt
 
 saw-requires : tie.Need-saw-requires
-saw-requires c κs = search needs
+saw-requires c κs = tt
 
 saw-requires-2 : tie.Need-saw-requires-2
-saw-requires-2 c κs = search needs
+saw-requires-2 c κs = tt
 
 wrap-requires : tie.Need-wrap-requires
-wrap-requires c κs = search needs
+wrap-requires c κs = tt
 
 wrap-requires-2 : tie.Need-wrap-requires-2
-wrap-requires-2 c κs = search needs
+wrap-requires-2 c κs = tt
 
 exp-requires : tie.Need-exp-requires
-exp-requires c κs = search needs
+exp-requires c κs = tt
 
 min-f32-requires : tie.Need-min-f32-requires
-min-f32-requires c κs = search needs
+min-f32-requires c κs = tt
 
 exp-requires-2 : tie.Need-exp-requires-2
-exp-requires-2 c κs = search needs
+exp-requires-2 c κs = tt
 
 returns : tie.Need-returns
-unfolding brassAt
-returns c = rw (c .before .before .exp2 .ensures, c .before .before .before .min-f32 .ensures, c .before .before .before .before .exp .ensures, c .before .before .before .before .before .wrap2 .ensures, c .before .before .before .before .before .before .before .wrap .ensures, c .before .before .before .before .before .before .before .before .before .saw2 .ensures, c .before .before .before .before .before .before .before .before .before .before .saw .ensures, c .before .before .before .before .before .before .before .before .before .before .before .max-f32 .ensures, c .before .before .before .before .before .before .before .before .before .before .before .before .at .ensures, c .before .before .before .before .before .before .before .before .before .before .before .before .before .frame-time .ensures)
+returns c =
+    brass-frame _ _ _ _ _
+    (c .before .before .before .before .before .before .before .before .before .before .before .before .before .frame-time .ensures)
+    (c .before .before .before .before .before .before .before .before .before .before .before .before .at .ensures)
+    (c .before .before .before .before .before .before .before .before .before .before .before .max-f32 .ensures)
+    (c .before .before .before .before .before .before .before .before .before .before .saw .ensures)
+    (c .before .before .before .before .before .before .before .before .before .saw2 .ensures)
+    (c .before .before .before .before .before .before .before .wrap .ensures)
+    (c .before .before .before .before .before .wrap2 .ensures)
+    (c .before .before .before .before .exp .ensures)
+    (c .before .before .before .min-f32 .ensures)
+    (c .before .before .exp2 .ensures)
 
 pub brass-at-spec : {M : Type 1} → statement M
 brass-at-spec =

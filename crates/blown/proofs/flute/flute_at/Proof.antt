@@ -1,40 +1,48 @@
 -- `blown::flute::flute_at` meets its contract: each call by what it ensures, the draw by its value and by the state after it. Assumes nothing.
-use mathlib.Core.Path.{ap}
-use Rattle.blown.specs.Flute.{rngAt, fluteAt}
-use borrow.Author.Needs.{needs}
+use Rattle.blown.proofs.Frame.{flute-frame}
 use Rattle.blown.proofs.flute.flute_at.Statement.{statement}
 use Rattle.blown.proofs.flute.flute_at.Tie as tie
 
 frame-time-requires : tie.Need-frame-time-requires
-frame-time-requires c κs = search needs
+frame-time-requires c κs = c .before .pre .1
 
 exp-requires : tie.Need-exp-requires
-exp-requires c κs = search needs
+exp-requires c κs = tt
 
 sin-requires : tie.Need-sin-requires
-sin-requires c κs = search needs
+sin-requires c κs = tt
 
 wrap-requires : tie.Need-wrap-requires
-wrap-requires c κs = search needs
+wrap-requires c κs = tt
 
 at-requires : tie.Need-at-requires
-at-requires c κs = search needs
+at-requires c κs = c .before .before .before .before .before .before .before .pre .0
 
 max-f32-requires : tie.Need-max-f32-requires
-max-f32-requires c κs = search needs
+max-f32-requires c κs = tt
 
 wrap-requires-2 : tie.Need-wrap-requires-2
-wrap-requires-2 c κs = search needs
+wrap-requires-2 c κs = tt
 
 bi-requires : tie.Need-bi-requires
-bi-requires c κs = search needs
+bi-requires c κs = tt
 
 sin-requires-2 : tie.Need-sin-requires-2
-sin-requires-2 c κs = search needs
+sin-requires-2 c κs = tt
 
 returns : tie.Need-returns
-unfolding fluteAt
-returns c = rw (c .sin2 .ensures, c .before .before .before .bi .ensures .0, ← ap rngAt (c .before .before .before .bi .ensures .1), c .before .before .before .before .before .wrap2 .ensures, c .before .before .before .before .before .before .before .max-f32 .ensures, c .before .before .before .before .before .before .before .before .at .ensures, c .before .before .before .before .before .before .before .before .before .wrap .ensures, c .before .before .before .before .before .before .before .before .before .before .before .sin .ensures, c .before .before .before .before .before .before .before .before .before .before .before .before .before .exp .ensures, c .before .before .before .before .before .before .before .before .before .before .before .before .before .before .frame-time .ensures)
+returns c =
+    flute-frame _ _ _ _ _ _
+    (c .before .before .before .before .before .before .before .before .before .before .before .before .before .before .frame-time .ensures)
+    (c .before .before .before .before .before .before .before .before .before .before .before .before .before .exp .ensures)
+    (c .before .before .before .before .before .before .before .before .before .before .before .sin .ensures)
+    (c .before .before .before .before .before .before .before .before .before .wrap .ensures)
+    (c .before .before .before .before .before .before .before .before .at .ensures)
+    (c .before .before .before .before .before .before .before .max-f32 .ensures)
+    (c .before .before .before .before .before .wrap2 .ensures)
+    (c .before .before .before .bi .ensures .0)
+    (c .before .before .before .bi .ensures .1)
+    (c .sin2 .ensures)
 
 pub flute-at-spec : {M : Type 1} → statement M
 flute-at-spec =

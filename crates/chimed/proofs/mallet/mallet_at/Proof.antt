@@ -1,45 +1,55 @@
 -- `chimed::mallet::mallet_at` meets its contract: each call by what it ensures. Assumes nothing.
-use Rattle.chimed.specs.Mallet.{malletAt}
-use borrow.Author.Needs.{needs}
+use Rattle.chimed.proofs.Frame.{mallet-frame}
 use Rattle.chimed.proofs.mallet.mallet_at.Statement.{statement}
 use Rattle.chimed.proofs.mallet.mallet_at.Tie as tie
 
 at-requires : tie.Need-at-requires
-at-requires c κs = search needs
+at-requires c κs = c .before .pre .0
 
 phase-step-requires : tie.Need-phase-step-requires
-phase-step-requires c κs = search needs
+phase-step-requires c κs = tt
 
 frame-time-requires : tie.Need-frame-time-requires
-frame-time-requires c κs = search needs
+frame-time-requires c κs = c .before .before .before .pre .1
 
 sin-requires : tie.Need-sin-requires
-sin-requires c κs = search needs
+sin-requires c κs = tt
 
 exp-requires : tie.Need-exp-requires
-exp-requires c κs = search needs
+exp-requires c κs = tt
 
 sin-requires-2 : tie.Need-sin-requires-2
-sin-requires-2 c κs = search needs
+sin-requires-2 c κs = tt
 
 exp-requires-2 : tie.Need-exp-requires-2
-exp-requires-2 c κs = search needs
+exp-requires-2 c κs = tt
 
 sin-requires-3 : tie.Need-sin-requires-3
-sin-requires-3 c κs = search needs
+sin-requires-3 c κs = tt
 
 wrap-requires : tie.Need-wrap-requires
-wrap-requires c κs = search needs
+wrap-requires c κs = tt
 
 wrap-requires-2 : tie.Need-wrap-requires-2
-wrap-requires-2 c κs = search needs
+wrap-requires-2 c κs = tt
 
 wrap-requires-3 : tie.Need-wrap-requires-3
-wrap-requires-3 c κs = search needs
+wrap-requires-3 c κs = tt
 
 returns : tie.Need-returns
-unfolding malletAt
-returns c = rw (c .wrap3 .ensures, c .before .before .wrap2 .ensures, c .before .before .before .before .wrap .ensures, c .before .before .before .before .before .before .sin3 .ensures, c .before .before .before .before .before .before .before .before .exp2 .ensures, c .before .before .before .before .before .before .before .before .before .sin2 .ensures, c .before .before .before .before .before .before .before .before .before .before .before .exp .ensures, c .before .before .before .before .before .before .before .before .before .before .before .before .sin .ensures, c .before .before .before .before .before .before .before .before .before .before .before .before .before .before .frame-time .ensures, c .before .before .before .before .before .before .before .before .before .before .before .before .before .before .before .phase-step .ensures, c .before .before .before .before .before .before .before .before .before .before .before .before .before .before .before .before .at .ensures)
+returns c =
+    mallet-frame _ _ _ _ _
+    (c .before .before .before .before .before .before .before .before .before .before .before .before .before .before .before .before .at .ensures)
+    (c .before .before .before .before .before .before .before .before .before .before .before .before .before .before .before .phase-step .ensures)
+    (c .before .before .before .before .before .before .before .before .before .before .before .before .before .before .frame-time .ensures)
+    (c .before .before .before .before .before .before .before .before .before .before .before .before .sin .ensures)
+    (c .before .before .before .before .before .before .before .before .before .before .before .exp .ensures)
+    (c .before .before .before .before .before .before .before .before .before .sin2 .ensures)
+    (c .before .before .before .before .before .before .before .before .exp2 .ensures)
+    (c .before .before .before .before .before .before .sin3 .ensures)
+    (c .before .before .before .before .wrap .ensures)
+    (c .before .before .wrap2 .ensures)
+    (c .wrap3 .ensures)
 
 pub mallet-at-spec : {M : Type 1} → statement M
 mallet-at-spec =
