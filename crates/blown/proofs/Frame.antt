@@ -6,8 +6,8 @@ use Rattle.ieee.specs.Numbers.{c0, c0·006, c0·03, c0·15, c0·45, c0·5, c0·
 use Rattle.ieee.specs.Binary32.{_⊕_, _⊖_, _⊗_, _⊘_}
 use Rattle.ieee.specs.Order.{maxOf, minOf}
 use Rattle.dsp.specs.Kernels.{TAU, sinOf, expOf}
-use Rattle.dsp.specs.SplitMix64.{advance}
-use Rattle.dsp.specs.Draw.{biFrom}
+use Rattle.rng.specs.SplitMix64.{advance}
+use Rattle.rng.specs.Draw.{biFrom}
 use Rattle.osc.specs.Osc.{sawOf}
 use Rattle.osc.specs.Phase.{wrapped, seconds}
 use Rattle.blown.specs.Brass.{c0·07, c0·996, c1·004, c800, c1400, brassAt}
