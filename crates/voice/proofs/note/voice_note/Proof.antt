@@ -1,4 +1,5 @@
 -- `voice::note::voice_note` meets its contract. Assumes nothing.
+use Prim.Native.Nat.{_^_, _<_}
 use mathlib.Core.Path.{refl, sym, ap, _∙_}
 use native.Mathlib.Omega.{arith}
 use Rattle.rng.specs.SplitMix64.{stateAfter}
@@ -12,6 +13,9 @@ use Rattle.counts.proofs.Thump.{thump-count}
 use Rattle.voice.specs.Voice.{waveFrames}
 use Rattle.voice.proofs.note.voice_note.Statement.{statement}
 use Rattle.voice.proofs.note.voice_note.Tie as tie
+
+rng-fits : (c : tie.Start) → c .args .rng .0 < 2 ^ 64
+rng-fits c = omega arith
 
 nearest-u32-to-f32-requires : tie.Need-nearest-u32-to-f32-requires
 nearest-u32-to-f32-requires c κs = tt
@@ -51,7 +55,7 @@ same-length c = c .before .before .noise .kept .1 .0
 
 returns : tie.Need-returns
 unfolding drawsOf waveFrames
-returns c = rw (c .before .before .before .before .enum-told5 .given .1) (ap (λ (r : Rng). r .0) (c .before .before .noise .ensures .0) ∙ noiseDraws _ _ (omega arith), (c .before .before .noise .ensures .1, refl))
+returns c = rw (c .before .before .before .before .enum-told5 .given .1) (ap (λ (r : Rng). r .0) (c .before .before .noise .ensures .0) ∙ noiseDraws _ _ (rng-fits (c .before .before .before .before .before .before .before .before .before .before .before)), (c .before .before .noise .ensures .1, refl))
 
 enum-told-6 : tie.Need-enum-told-6
 enum-told-6 c = c .match .keys6
@@ -63,7 +67,7 @@ enum-told-7 : tie.Need-enum-told-7
 enum-told-7 c = c .match .keys7
 
 at-requires : tie.Need-at-requires
-at-requires c κs = reaches-less (c .before .before .before .before .before .before .before .args .pitch) _ _ _ (c .before .before .before .before .before .before .before .pre .1 .1 .1 .1 .0) (omega arith)
+at-requires c κs = reaches-less (c .before .before .before .before .before .before .before .args .pitch) _ _ _ (c .before .before .before .before .before .before .before .pre .1 .1 .1 .1 .0) (c .before .before .before .before .before .before .before .pre .1 .0)
 
 pluck-string-requires : tie.Need-pluck-string-requires
 pluck-string-requires c κs = (c .before .before .before .before .before .before .before .before .before .before .pre .0, (c .before .before .before .before .before .before .before .before .before .before .pre .1 .1 .0, c .before .before .before .before .before .before .before .before .before .before .pre .1 .1 .1 .0))
@@ -126,7 +130,7 @@ same-length-5 c = c .before .before .flute-note .kept .1 .1 .1 .1 .1 .0
 
 returns-4 : tie.Need-returns-4
 unfolding drawsOf waveFrames
-returns-4 c = rw (c .before .before .before .before .enum-told13 .given .1) (ap (λ (r : Rng). r .0) (c .before .before .flute-note .ensures .1) ∙ fluteDraws _ _ _ _ _ (omega arith), (rw (c .before .before .before .before .before .before .nearest-u32-to-f32 .ensures) at (c .before .before .flute-note .ensures .0), refl))
+returns-4 c = rw (c .before .before .before .before .enum-told13 .given .1) (ap (λ (r : Rng). r .0) (c .before .before .flute-note .ensures .1) ∙ fluteDraws _ _ _ _ _ (rng-fits (c .before .before .before .before .before .before .before .before .before .before .before)), (rw (c .before .before .before .before .before .before .nearest-u32-to-f32 .ensures) at (c .before .before .flute-note .ensures .0), refl))
 
 enum-told-14 : tie.Need-enum-told-14
 enum-told-14 c = c .match .keys14
@@ -157,91 +161,91 @@ same-length-6 c = c .before .before .square .kept .1 .1 .1 .1 .1 .0
 
 returns-5 : tie.Need-returns-5
 unfolding drawsOf waveFrames
-returns-5 c = rw (c .before .before .before .before .enum-told .given .1) (sym (state-none _ (omega arith)), (rw (c .before .before .before .before .before .before .nearest-u32-to-f32 .ensures) at (c .before .before .square .ensures), refl))
+returns-5 c = rw (c .before .before .before .before .enum-told .given .1) (sym (state-none _ (rng-fits (c .before .before .before .before .before .before .before .before .before .before .before))), (rw (c .before .before .before .before .before .before .nearest-u32-to-f32 .ensures) at (c .before .before .square .ensures), refl))
 
 same-length-7 : tie.Need-same-length-7
 same-length-7 c = c .before .before .triangle .kept .1 .1 .1 .0
 
 returns-6 : tie.Need-returns-6
 unfolding drawsOf waveFrames
-returns-6 c = rw (c .before .before .before .before .enum-told2 .given .1) (sym (state-none _ (omega arith)), (rw (c .before .before .before .before .before .before .nearest-u32-to-f32 .ensures) at (c .before .before .triangle .ensures), refl))
+returns-6 c = rw (c .before .before .before .before .enum-told2 .given .1) (sym (state-none _ (rng-fits (c .before .before .before .before .before .before .before .before .before .before .before))), (rw (c .before .before .before .before .before .before .nearest-u32-to-f32 .ensures) at (c .before .before .triangle .ensures), refl))
 
 same-length-8 : tie.Need-same-length-8
 same-length-8 c = c .before .before .sawtooth .kept .1 .1 .1 .0
 
 returns-7 : tie.Need-returns-7
 unfolding drawsOf waveFrames
-returns-7 c = rw (c .before .before .before .before .enum-told3 .given .1) (sym (state-none _ (omega arith)), (rw (c .before .before .before .before .before .before .nearest-u32-to-f32 .ensures) at (c .before .before .sawtooth .ensures), refl))
+returns-7 c = rw (c .before .before .before .before .enum-told3 .given .1) (sym (state-none _ (rng-fits (c .before .before .before .before .before .before .before .before .before .before .before))), (rw (c .before .before .before .before .before .before .nearest-u32-to-f32 .ensures) at (c .before .before .sawtooth .ensures), refl))
 
 same-length-9 : tie.Need-same-length-9
 same-length-9 c = c .before .before .sine .kept .1 .1 .1 .0
 
 returns-8 : tie.Need-returns-8
 unfolding drawsOf waveFrames
-returns-8 c = rw (c .before .before .before .before .enum-told4 .given .1) (sym (state-none _ (omega arith)), (rw (c .before .before .before .before .before .before .nearest-u32-to-f32 .ensures) at (c .before .before .sine .ensures), refl))
+returns-8 c = rw (c .before .before .before .before .enum-told4 .given .1) (sym (state-none _ (rng-fits (c .before .before .before .before .before .before .before .before .before .before .before))), (rw (c .before .before .before .before .before .before .nearest-u32-to-f32 .ensures) at (c .before .before .sine .ensures), refl))
 
 same-length-10 : tie.Need-same-length-10
 same-length-10 c = c .before .before .fm .kept .1 .1 .1 .1 .1 .0
 
 returns-9 : tie.Need-returns-9
 unfolding drawsOf waveFrames
-returns-9 c = rw (c .before .before .before .before .enum-told6 .given .1) (sym (state-none _ (omega arith)), (rw (c .before .before .before .before .before .before .nearest-u32-to-f32 .ensures) at (c .before .before .fm .ensures), refl))
+returns-9 c = rw (c .before .before .before .before .enum-told6 .given .1) (sym (state-none _ (rng-fits (c .before .before .before .before .before .before .before .before .before .before .before))), (rw (c .before .before .before .before .before .before .nearest-u32-to-f32 .ensures) at (c .before .before .fm .ensures), refl))
 
 same-length-11 : tie.Need-same-length-11
 same-length-11 c = c .before .before .epiano-note .kept .1 .1 .1 .1 .0
 
 returns-10 : tie.Need-returns-10
 unfolding drawsOf waveFrames
-returns-10 c = rw (c .before .before .before .before .enum-told9 .given .1) (sym (state-none _ (omega arith)), (rw (c .before .before .before .before .before .before .nearest-u32-to-f32 .ensures) at (c .before .before .epiano-note .ensures), refl))
+returns-10 c = rw (c .before .before .before .before .enum-told9 .given .1) (sym (state-none _ (rng-fits (c .before .before .before .before .before .before .before .before .before .before .before))), (rw (c .before .before .before .before .before .before .nearest-u32-to-f32 .ensures) at (c .before .before .epiano-note .ensures), refl))
 
 same-length-12 : tie.Need-same-length-12
 same-length-12 c = c .before .before .organ-note .kept .1 .1 .1 .0
 
 returns-11 : tie.Need-returns-11
 unfolding drawsOf waveFrames
-returns-11 c = rw (c .before .before .before .before .enum-told10 .given .1) (sym (state-none _ (omega arith)), (rw (c .before .before .before .before .before .before .nearest-u32-to-f32 .ensures) at (c .before .before .organ-note .ensures), refl))
+returns-11 c = rw (c .before .before .before .before .enum-told10 .given .1) (sym (state-none _ (rng-fits (c .before .before .before .before .before .before .before .before .before .before .before))), (rw (c .before .before .before .before .before .before .nearest-u32-to-f32 .ensures) at (c .before .before .organ-note .ensures), refl))
 
 same-length-13 : tie.Need-same-length-13
 same-length-13 c = c .before .before .strings-note .kept .1 .1 .1 .0
 
 returns-12 : tie.Need-returns-12
 unfolding drawsOf waveFrames
-returns-12 c = rw (c .before .before .before .before .enum-told11 .given .1) (sym (state-none _ (omega arith)), (rw (c .before .before .before .before .before .before .nearest-u32-to-f32 .ensures) at (c .before .before .strings-note .ensures), refl))
+returns-12 c = rw (c .before .before .before .before .enum-told11 .given .1) (sym (state-none _ (rng-fits (c .before .before .before .before .before .before .before .before .before .before .before))), (rw (c .before .before .before .before .before .before .nearest-u32-to-f32 .ensures) at (c .before .before .strings-note .ensures), refl))
 
 same-length-14 : tie.Need-same-length-14
 same-length-14 c = c .before .before .brass-note .kept .1 .1 .1 .1 .0
 
 returns-13 : tie.Need-returns-13
 unfolding drawsOf waveFrames
-returns-13 c = rw (c .before .before .before .before .enum-told12 .given .1) (sym (state-none _ (omega arith)), (rw (c .before .before .before .before .before .before .nearest-u32-to-f32 .ensures) at (c .before .before .brass-note .ensures), refl))
+returns-13 c = rw (c .before .before .before .before .enum-told12 .given .1) (sym (state-none _ (rng-fits (c .before .before .before .before .before .before .before .before .before .before .before))), (rw (c .before .before .before .before .before .before .nearest-u32-to-f32 .ensures) at (c .before .before .brass-note .ensures), refl))
 
 same-length-15 : tie.Need-same-length-15
 same-length-15 c = c .before .before .mallet-note .kept .1 .1 .1 .1 .0
 
 returns-14 : tie.Need-returns-14
 unfolding drawsOf waveFrames
-returns-14 c = rw (c .before .before .before .before .enum-told14 .given .1) (sym (state-none _ (omega arith)), (rw (c .before .before .before .before .before .before .nearest-u32-to-f32 .ensures) at (c .before .before .mallet-note .ensures), refl))
+returns-14 c = rw (c .before .before .before .before .enum-told14 .given .1) (sym (state-none _ (rng-fits (c .before .before .before .before .before .before .before .before .before .before .before))), (rw (c .before .before .before .before .before .before .nearest-u32-to-f32 .ensures) at (c .before .before .mallet-note .ensures), refl))
 
 same-length-16 : tie.Need-same-length-16
 same-length-16 c = c .before .before .bell-note .kept .1 .1 .1 .0
 
 returns-15 : tie.Need-returns-15
 unfolding drawsOf waveFrames
-returns-15 c = rw (c .before .before .before .before .enum-told15 .given .1) (sym (state-none _ (omega arith)), (rw (c .before .before .before .before .before .before .nearest-u32-to-f32 .ensures) at (c .before .before .bell-note .ensures), refl))
+returns-15 c = rw (c .before .before .before .before .enum-told15 .given .1) (sym (state-none _ (rng-fits (c .before .before .before .before .before .before .before .before .before .before .before))), (rw (c .before .before .before .before .before .before .nearest-u32-to-f32 .ensures) at (c .before .before .bell-note .ensures), refl))
 
 same-length-17 : tie.Need-same-length-17
 same-length-17 c = c .before .before .bass-note .kept .1 .1 .1 .1 .1 .0
 
 returns-16 : tie.Need-returns-16
 unfolding drawsOf waveFrames
-returns-16 c = rw (c .before .before .before .before .enum-told16 .given .1) (sym (state-none _ (omega arith)), (rw (c .before .before .before .before .before .before .nearest-u32-to-f32 .ensures) at (c .before .before .bass-note .ensures), refl))
+returns-16 c = rw (c .before .before .before .before .enum-told16 .given .1) (sym (state-none _ (rng-fits (c .before .before .before .before .before .before .before .before .before .before .before))), (rw (c .before .before .before .before .before .before .nearest-u32-to-f32 .ensures) at (c .before .before .bass-note .ensures), refl))
 
 same-length-18 : tie.Need-same-length-18
 same-length-18 c = c .before .before .cowbell .kept .1 .1 .1 .0
 
 returns-17 : tie.Need-returns-17
 unfolding drawsOf waveFrames
-returns-17 c = rw (c .before .before .before .before .enum-told17 .given .1) (sym (state-none _ (omega arith)), (rw (c .before .before .before .before .before .before .nearest-u32-to-f32 .ensures) at (c .before .before .cowbell .ensures), refl))
+returns-17 c = rw (c .before .before .before .before .enum-told17 .given .1) (sym (state-none _ (rng-fits (c .before .before .before .before .before .before .before .before .before .before .before))), (rw (c .before .before .before .before .before .before .nearest-u32-to-f32 .ensures) at (c .before .before .cowbell .ensures), refl))
 
 pub voice-note-spec : {M : Type 1} → statement M
 voice-note-spec =
