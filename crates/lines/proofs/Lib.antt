@@ -1,4 +1,3 @@
 pub mod Forms
 pub mod Reading
 pub mod Small
-pub mod Sounds

@@ -4,17 +4,14 @@ use mathlib.Core.List.{List}
 use lib.ListN.{drop}
 use Rattle.dsl.specs.declared.knobs.Adsr.{Adsr}
 use Rattle.digits.specs.Read.{Read, got, broken}
-use Rattle.lines.specs.declared.fields.Numbers.{Numbers}
-use Rattle.lines.specs.declared.fields.LineS.{LineS}
-use Rattle.lines.specs.declared.fields.LineS.the-variants as line-s
-use Rattle.lines.specs.declared.fields.Opening.{Opening}
-use Rattle.lines.specs.declared.fields.LineG.{LineG}
-use Rattle.lines.specs.declared.fields.LineG.the-variants as line-g
-use Rattle.lines.specs.declared.fields.LineE.{LineE}
-use Rattle.lines.specs.declared.fields.LineE.the-variants as line-e
-use Rattle.lines.specs.declared.sound.Sound.{Sound}
-use Rattle.lines.specs.declared.sound.LineV.{LineV}
-use Rattle.lines.specs.declared.sound.LineV.the-variants as line-v
+use Rattle.lines.specs.declared.Numbers.{Numbers}
+use Rattle.lines.specs.declared.LineS.{LineS}
+use Rattle.lines.specs.declared.LineS.the-variants as line-s
+use Rattle.lines.specs.declared.Opening.{Opening}
+use Rattle.lines.specs.declared.LineG.{LineG}
+use Rattle.lines.specs.declared.LineG.the-variants as line-g
+use Rattle.lines.specs.declared.LineE.{LineE}
+use Rattle.lines.specs.declared.LineE.the-variants as line-e
 
 abbrev pub numbersIn : List ℕ → LineS → Read Numbers
 numbersIn s (line-s.At v next) = got v (drop next s)
@@ -27,7 +24,3 @@ openingIn s line-g.Broken = broken
 abbrev pub envIn : List ℕ → LineE → Read Adsr
 envIn s (line-e.At v next) = got v (drop next s)
 envIn s line-e.Broken = broken
-
-abbrev pub soundIn : List ℕ → LineV → Read Sound
-soundIn s (line-v.At v next) = got v (drop next s)
-soundIn s line-v.Broken = broken

@@ -7,8 +7,8 @@ use lib.Dec.{eqb}
 use lib.Ieee.{Float, binary32, ofBits}
 use Rattle.dsl.specs.declared.knobs.Adsr.{Adsr}
 use Rattle.digits.specs.Read.{Read, got, broken, after, tab, newline, byte, hex, decimal}
-use Rattle.lines.specs.declared.fields.Numbers.{Numbers}
-use Rattle.lines.specs.declared.fields.Opening.{Opening}
+use Rattle.lines.specs.declared.Numbers.{Numbers}
+use Rattle.lines.specs.declared.Opening.{Opening}
 
 -- The kinds of a field: "floats are 8 lowercase hexadecimal digits of the f32 bits .. other numbers decimal", of which a number "that doesn't fit 32" bits breaks the form.
 abbrev pub float : ℕ

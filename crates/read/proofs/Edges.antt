@@ -11,7 +11,7 @@ use Rattle.dsl.specs.declared.wave.SeqWave.the-variants.{Sawtooth, Fm}
 use Rattle.dsl.specs.declared.knobs.SeqVoice.{SeqVoice}
 use Rattle.digits.specs.Read.{got, broken, digitOf, byte, hexFrom, digitsFrom, fitting, decimal}
 use Rattle.lines.specs.Line.{value, field, fields, before, ending, line, lineS, seedField, drawField, lineG, lineE}
-use Rattle.lines.specs.Voice.{knobCount, voiceOf, voiceWith, soundOf, lineV}
+use Rattle.voice_line.specs.Voice.{knobCount, voiceOf, voiceWith, soundOf, lineV}
 use Rattle.read.specs.Notes.{orElse, note, notesUpTo, notesOf}
 use Rattle.read.specs.Text.{Text, textOf}
 

@@ -6,12 +6,12 @@ use native.Mathlib.Omega.{arith}
 use Rattle.dsl.specs.declared.knobs.Adsr.{Adsr}
 use Rattle.digits.specs.Read.{Read, got, broken, after}
 use Rattle.lines.specs.Line.{lineS, lineG, lineE}
-use Rattle.lines.specs.Voice.{lineV}
+use Rattle.voice_line.specs.Voice.{lineV}
 use Rattle.read.specs.Notes.{notesOf, countOf, Noted}
 use Rattle.read.specs.Text.{Text, seqOf, textOf, parsedOf, NotesIn, Parses}
-use Rattle.lines.specs.declared.fields.Numbers.{Numbers}
-use Rattle.lines.specs.declared.fields.Opening.{Opening}
-use Rattle.lines.specs.declared.sound.Sound.{Sound}
+use Rattle.lines.specs.declared.Numbers.{Numbers}
+use Rattle.lines.specs.declared.Opening.{Opening}
+use Rattle.voice_line.specs.declared.Sound.{Sound}
 use Rattle.read.specs.declared.notes.Count.{Count}
 use Rattle.read.specs.declared.notes.Count.the-variants as count-of
 use Rattle.read.specs.declared.text.Parsed.the-variants.{Score, Broken}

@@ -5,7 +5,7 @@ use mathlib.Core.List.{List, [], _∷_}
 use lib.ListN.{length}
 use Rattle.digits.specs.Read.{Read, got, broken}
 use Rattle.lines.specs.Line.{before, lineS, lineG, lineE}
-use Rattle.lines.specs.Voice.{lineV}
+use Rattle.voice_line.specs.Voice.{lineV}
 use Rattle.read.specs.Notes.{note, notesUpTo, notesOf}
 use Rattle.read.specs.Text.{Text, textOf}
 use Rattle.lines.proofs.Forms.{broken-got, parted}

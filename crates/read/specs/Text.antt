@@ -6,10 +6,10 @@ use Rattle.dsl.specs.declared.knobs.Adsr.{Adsr}
 use Rattle.score.specs.declared.seq.Seq.{Seq}
 use Rattle.digits.specs.Read.{Read, got, broken, after}
 use Rattle.lines.specs.Line.{lineS, lineG, lineE}
-use Rattle.lines.specs.Voice.{lineV}
+use Rattle.voice_line.specs.Voice.{lineV}
 use Rattle.read.specs.Notes.{notesOf, countOf, Stored}
-use Rattle.lines.specs.declared.fields.Numbers.{Numbers}
-use Rattle.lines.specs.declared.sound.Sound.{Sound}
+use Rattle.lines.specs.declared.Numbers.{Numbers}
+use Rattle.voice_line.specs.declared.Sound.{Sound}
 use Rattle.read.specs.declared.text.TextScore.{TextScore}
 use Rattle.read.specs.declared.text.Parsed.{Parsed}
 use Rattle.read.specs.declared.text.Parsed.the-variants.{Score, Broken}

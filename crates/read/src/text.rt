@@ -5,12 +5,12 @@ use crate::notes::notes;
 use lines::LineE;
 use lines::LineG;
 use lines::LineS;
-use lines::LineV;
 use lines::line_e;
 use lines::line_g;
 use lines::line_s;
-use lines::line_v;
 use score::Seq;
+use voice_line::LineV;
+use voice_line::line_v;
 
 // A score call's numbers and voice, the length of its output, the seed and the draw that open its
 // session, and how many notes it has. The notes' words stand in a lent slice.
