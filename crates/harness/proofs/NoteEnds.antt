@@ -9,11 +9,11 @@ use Rattle.outcome.specs.Answer.{Result, refused, accepted, seen}
 use Rattle.tally.specs.Tally.{reported}
 use Rattle.note.specs.NoteCall.{NoteEvent, Voiced, noteResultOf, noteResultIn, rngAfter}
 use Rattle.note.specs.declared.answer.NoteAnswer.{NoteAnswer}
-use Rattle.knobs.specs.Knobs.{voiceAt}
+use Rattle.harness_knobs.specs.Knobs.{voiceAt}
 use Rattle.harness.specs.Called.{Called, none, made, numberIn, stateAfterResult, Places, Holds}
 use Rattle.harness.specs.Note.{NoteExport, NoteExported, calledWith, calledIn}
-use Rattle.knobs.specs.declared.VoiceAt.{VoiceAt}
-use Rattle.knobs.specs.declared.VoiceAt.the-variants.{Voice, Nothing}
+use Rattle.harness_knobs.specs.declared.VoiceAt.{VoiceAt}
+use Rattle.harness_knobs.specs.declared.VoiceAt.the-variants.{Voice, Nothing}
 use Rattle.harness.proofs.Ends.{Returned, made-holds}
 
 -- the note call that was made, with the voice v and the generator g; a is its answer

@@ -8,18 +8,18 @@ use Rattle.dsl.specs.declared.knobs.Adsr.{Adsr}
 use Rattle.dsl.specs.declared.knobs.SeqVoice.{SeqVoice}
 use Rattle.outcome.specs.Answer.{Result, refused, accepted, seen}
 use Rattle.tally.specs.Tally.{reported}
-use Rattle.calls.specs.ScoreCall.{Event, Scored, resultOf, resultIn, sessionAfter}
+use Rattle.score_contract.specs.ScoreCall.{Event, Scored, resultOf, resultIn, sessionAfter}
 use Rattle.session.specs.declared.Session.{Session}
 use Rattle.session.specs.declared.Answer.{Answer}
-use Rattle.knobs.specs.Knobs.{voiceAt, envAt}
+use Rattle.harness_knobs.specs.Knobs.{voiceAt, envAt}
 use Rattle.harness.specs.Called.{Called, none, made, numberIn, stateAfterResult, drawAfterResult, drawAfterCall, freeAfterCall, Places, Holds}
 use Rattle.harness.specs.Score.{ScoreExport, ScoreExported, seqWith, scoreWith, calledWith, calledIn}
-use Rattle.knobs.specs.declared.VoiceAt.{VoiceAt}
-use Rattle.knobs.specs.declared.VoiceAt.the-variants.{Voice}
-use Rattle.knobs.specs.declared.VoiceAt.the-variants as voices
-use Rattle.knobs.specs.declared.EnvAt.{EnvAt}
-use Rattle.knobs.specs.declared.EnvAt.the-variants.{Env}
-use Rattle.knobs.specs.declared.EnvAt.the-variants as envelopes
+use Rattle.harness_knobs.specs.declared.VoiceAt.{VoiceAt}
+use Rattle.harness_knobs.specs.declared.VoiceAt.the-variants.{Voice}
+use Rattle.harness_knobs.specs.declared.VoiceAt.the-variants as voices
+use Rattle.harness_knobs.specs.declared.EnvAt.{EnvAt}
+use Rattle.harness_knobs.specs.declared.EnvAt.the-variants.{Env}
+use Rattle.harness_knobs.specs.declared.EnvAt.the-variants as envelopes
 use Rattle.harness.proofs.Ends.{Returned, made-holds}
 
 -- the session that was handed in, with the generator g

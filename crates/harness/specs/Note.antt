@@ -4,10 +4,10 @@ use mathlib.Core.List.{List}
 use lib.ListN.{length}
 use lib.Ieee.{Float}
 use Rattle.note.specs.NoteCall.{noteResultOf}
-use Rattle.knobs.specs.Knobs.{voiceAt}
+use Rattle.harness_knobs.specs.Knobs.{voiceAt}
 use Rattle.harness.specs.Called.{Called, none, made, Places, Holds}
-use Rattle.knobs.specs.declared.VoiceAt.{VoiceAt}
-use Rattle.knobs.specs.declared.VoiceAt.the-variants.{Voice, Nothing}
+use Rattle.harness_knobs.specs.declared.VoiceAt.{VoiceAt}
+use Rattle.harness_knobs.specs.declared.VoiceAt.the-variants.{Voice, Nothing}
 
 -- What was handed in, and what was lent and answered.
 pub record NoteExport : Type 0 where

@@ -7,16 +7,16 @@ use lib.Ieee.{Float}
 use Rattle.dsl.specs.declared.knobs.Adsr.{Adsr}
 use Rattle.dsl.specs.declared.knobs.SeqVoice.{SeqVoice}
 use Rattle.score.specs.Score.{Score, scoreOf}
-use Rattle.calls.specs.ScoreCall.{resultOf}
+use Rattle.score_contract.specs.ScoreCall.{resultOf}
 use Rattle.score.specs.declared.seq.Seq.{Seq}
-use Rattle.knobs.specs.Knobs.{voiceAt, envAt}
+use Rattle.harness_knobs.specs.Knobs.{voiceAt, envAt}
 use Rattle.harness.specs.Called.{Called, none, made, drawAfterCall, freeAfterCall, Places, Holds}
-use Rattle.knobs.specs.declared.VoiceAt.{VoiceAt}
-use Rattle.knobs.specs.declared.VoiceAt.the-variants.{Voice}
-use Rattle.knobs.specs.declared.VoiceAt.the-variants as voices
-use Rattle.knobs.specs.declared.EnvAt.{EnvAt}
-use Rattle.knobs.specs.declared.EnvAt.the-variants.{Env}
-use Rattle.knobs.specs.declared.EnvAt.the-variants as envelopes
+use Rattle.harness_knobs.specs.declared.VoiceAt.{VoiceAt}
+use Rattle.harness_knobs.specs.declared.VoiceAt.the-variants.{Voice}
+use Rattle.harness_knobs.specs.declared.VoiceAt.the-variants as voices
+use Rattle.harness_knobs.specs.declared.EnvAt.{EnvAt}
+use Rattle.harness_knobs.specs.declared.EnvAt.the-variants.{Env}
+use Rattle.harness_knobs.specs.declared.EnvAt.the-variants as envelopes
 
 -- What was handed in, and what was lent and answered. `draw` is the session's count, `buffer` the note buffer.
 pub record ScoreExport : Type 0 where

@@ -2,10 +2,10 @@
 ghost use Rattle.harness.specs.Score.{ScoreExported};
 use crate::outcomes::draws_of;
 use crate::outcomes::number_of;
-use knobs::EnvAt;
-use knobs::VoiceAt;
-use knobs::env_at;
-use knobs::voice_at;
+use harness_knobs::EnvAt;
+use harness_knobs::VoiceAt;
+use harness_knobs::env_at;
+use harness_knobs::voice_at;
 use rng::Rng;
 use score::Seq;
 use session::Session;

@@ -20,7 +20,7 @@ use Rattle.counts.specs.Draws.{drawsOf}
 use Rattle.voice.specs.Voice.{noteFrames}
 use Rattle.dsl.specs.declared.knobs.SeqVoice.{SeqVoice}
 use Rattle.outcome.specs.Answer.{numberOf, Result, refused, accepted, unless, seen, outAfter, free}
-use Rattle.note_refusals.specs.NoteRefusals.{valuesRefusal, noteCallRefusal}
+use Rattle.note_verdict.specs.NoteRefusals.{valuesRefusal, noteCallRefusal}
 use Rattle.note.specs.NoteCall.{NoteEvent, Voiced, noteResultOf, noteResultIn, rngAfter}
 use Rattle.note.specs.declared.answer.NoteAnswer.{NoteAnswer}
 use Rattle.outcome.specs.declared.answer.Outcome.the-variants.{Played, Refused}

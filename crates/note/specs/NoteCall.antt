@@ -10,7 +10,7 @@ use Rattle.counts.specs.Draws.{drawsOf}
 use Rattle.voice.specs.Voice.{noteFrames}
 use Rattle.dsl.specs.declared.knobs.SeqVoice.{SeqVoice}
 use Rattle.outcome.specs.Answer.{Result, refused, accepted, unless, seen, outAfter, free}
-use Rattle.note_refusals.specs.NoteRefusals.{noteCallRefusal}
+use Rattle.note_verdict.specs.NoteRefusals.{noteCallRefusal}
 use Rattle.note.specs.declared.answer.NoteAnswer.{NoteAnswer}
 
 -- "An accepted note call reports e, demand 3's draws with every frame of its output sounded", from the generator's state g

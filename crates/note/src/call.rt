@@ -3,7 +3,7 @@ ghost use Rattle.note.specs.NoteCall.{Voiced};
 use crate::answer::NoteAnswer;
 use dsl::Pitch;
 use dsl::SeqVoice;
-use note_refusals::note_call_verdict;
+use note_verdict::note_call_verdict;
 use outcome::Outcome;
 use outcome::Verdict;
 use rng::Rng;

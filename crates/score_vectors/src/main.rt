@@ -7,8 +7,8 @@
 ghost use Prim.Native.Nat.{_≤_};
 use dsl::Adsr;
 use dsl::SeqVoice;
-use knobs::EnvAt;
-use knobs::VoiceAt;
+use harness_knobs::EnvAt;
+use harness_knobs::VoiceAt;
 use libc::STDIN_FILENO;
 use outcome::Outcome;
 use rng::Rng;
@@ -49,14 +49,14 @@ fn words(line: &[u8], from: usize) -> [u32; 64]
 fn voice_of(line: &[u8]) -> VoiceAt {
     let count = vectors::length_field(line, 11, MOST);
     let values = floats(line, 15);
-    knobs::voice_at(vectors::u32_field(line, 6), &values[..count])
+    harness_knobs::voice_at(vectors::u32_field(line, 6), &values[..count])
 }
 
 fn env_of(line: &[u8]) -> EnvAt {
     let from = 15 + vectors::length_field(line, 11, MOST);
     let count = vectors::length_field(line, 12, MOST);
     let values = floats(line, from);
-    knobs::env_at(&values[..count])
+    harness_knobs::env_at(&values[..count])
 }
 
 fn seq_of(line: &[u8], voice: SeqVoice, env: Adsr) -> Seq {

@@ -15,15 +15,15 @@ use Rattle.outcome.specs.declared.answer.Refusal.{Refusal}
 use Rattle.outcome.specs.declared.answer.Refusal.the-variants.{Draws}
 use Rattle.outcome.proofs.Refusing.{refuses}
 use Rattle.score.specs.Score.{Score, scoreDraws}
-use Rattle.calls.specs.Frames.{scoreFrames}
+use Rattle.score_contract.specs.Frames.{scoreFrames}
 use Rattle.score.specs.Refusals.{refusal, refusalAt, Clean}
-use Rattle.calls.specs.ScoreCall.{Event, Scored, scoreIn, sessionAfter, resultOf, resultIn}
+use Rattle.score_contract.specs.ScoreCall.{Event, Scored, scoreIn, sessionAfter, resultOf, resultIn}
 use Rattle.session.specs.declared.Session.{Session}
 use Rattle.session.specs.declared.Answer.{Answer}
 use Rattle.score.proofs.Accepted.{accepted-score}
-use Rattle.draws.specs.Sum.{sumOf}
-use Rattle.draws.specs.declared.Sum.the-variants.{Over, Total}
-use Rattle.verdict.proofs.Order.{or-first}
+use Rattle.score_draws.specs.Sum.{sumOf}
+use Rattle.score_draws.specs.declared.Sum.the-variants.{Over, Total}
+use Rattle.score_verdict.proofs.Order.{or-first}
 
 -- ---- 22 applies where none before it does and the draws pass what is left
 over-is : (b : Bool) (D : ℕ) → Over ≡ cond b Over (Total D) → b ≡ true

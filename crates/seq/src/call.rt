@@ -1,11 +1,11 @@
 // The score call.
-ghost use Rattle.calls.specs.ScoreCall.{Scored};
-use draws::Sum;
+ghost use Rattle.score_contract.specs.ScoreCall.{Scored};
 use outcome::Outcome;
 use outcome::Refusal;
 use outcome::Verdict;
-use playing::play_notes;
 use score::Seq;
+use score_draws::Sum;
+use score_notes::play_notes;
 use session::Answer;
 use session::Session;
 
@@ -35,7 +35,7 @@ pub fn render_seq(
     }) ⌝ }
 {
     let n = out.len();
-    if let Verdict::Refuse(r) = verdict::score_verdict(
+    if let Verdict::Refuse(r) = score_verdict::score_verdict(
         seq,
         notes,
         lane,
@@ -49,7 +49,7 @@ pub fn render_seq(
         };
     }
     let draw = session.draw;
-    let sum = draws::score_draws(seq, notes, lane, n, u64::MAX - draw);
+    let sum = score_draws::score_draws(seq, notes, lane, n, u64::MAX - draw);
     let Sum::Total(d) = sum else {
         return Answer {
             session,

@@ -10,9 +10,9 @@ use Rattle.rng.specs.SplitMix64.{stateAfter}
 use Rattle.rng.proofs.States.{state-add}
 use Rattle.outcome.specs.Answer.{Result, refused, accepted, unless}
 use Rattle.score.specs.Score.{Score, noteAt, count, drawsBefore, scoreDraws}
-use Rattle.calls.specs.Frames.{withNote, framesAfter, scoreFrames}
+use Rattle.score_contract.specs.Frames.{withNote, framesAfter, scoreFrames}
 use Rattle.score.specs.Refusals.{refusal, refusalAt}
-use Rattle.calls.specs.ScoreCall.{Event, scoreIn, sessionAfter, resultOf, resultIn}
+use Rattle.score_contract.specs.ScoreCall.{Event, scoreIn, sessionAfter, resultOf, resultIn}
 use Rattle.session.specs.Opened.{sessionAt}
 use Rattle.session.specs.declared.Session.{Session}
 use Rattle.score.proofs.Accepted.{or-zero}

@@ -17,10 +17,10 @@ use Rattle.groove.specs.Length.{skipped}
 use Rattle.counts.specs.Draws.{drawsOf}
 use Rattle.voice.proofs.Own.{note-same}
 use Rattle.outcome.specs.Answer.{accepted}
-use Rattle.note_refusals.specs.NoteRefusals.{valuesRefusal, noteCallRefusal}
+use Rattle.note_verdict.specs.NoteRefusals.{valuesRefusal, noteCallRefusal}
 use Rattle.note.specs.NoteCall.{noteResultOf}
 use Rattle.score.specs.Score.{Score, place, pitch, drawsIn}
-use Rattle.calls.specs.Frames.{samplesIn}
+use Rattle.score_contract.specs.Frames.{samplesIn}
 use Rattle.score.specs.Refusals.{refusal}
 use Rattle.score.proofs.Accepted.{NoteFine, clean-note, sounded-reached, Accepted, accepted-score}
 use Rattle.tally.specs.Alone.{values, aloneOf, Alone}

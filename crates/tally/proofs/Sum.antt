@@ -19,7 +19,7 @@ use Rattle.voice.proofs.Own.{note-length}
 use Rattle.mix.specs.Mix.{gained, mixedAt}
 use Rattle.mix.proofs.Mixing.{silence-length, silence-at, mixed-length, mixed-before, mixed-within, mixed-past}
 use Rattle.score.specs.Score.{Score, noteAt, count, place, drawsBefore}
-use Rattle.calls.specs.Frames.{samplesIn, mixedIn, withNote, framesAfter, scoreFrames}
+use Rattle.score_contract.specs.Frames.{samplesIn, mixedIn, withNote, framesAfter, scoreFrames}
 use Rattle.tally.specs.Sum.{among, gainedAt, frameAfter}
 use Rattle.score.proofs.Notes.{all-within}
 

@@ -13,7 +13,7 @@ use Rattle.groove.specs.Length.{skipped}
 use Rattle.mix.specs.Mix.{silence, mixedAt}
 use Rattle.outcome.specs.Answer.{accepted}
 use Rattle.score.specs.Score.{Score, noteAt, count, place, drawsIn, noteDraws, drawsBefore}
-use Rattle.calls.specs.Frames.{samplesIn, mixedIn, withNote, framesAfter}
+use Rattle.score_contract.specs.Frames.{samplesIn, mixedIn, withNote, framesAfter}
 use Rattle.tally.specs.Alone.{aloneOf, Alone}
 use Rattle.tally.specs.Tally.{Taken, reported, framesIn, taken, takenAfter}
 

@@ -11,7 +11,7 @@ use Rattle.groove.specs.Length.{skipped}
 use Rattle.outcome.specs.Answer.{Result, accepted}
 use Rattle.note.specs.NoteCall.{noteResultOf}
 use Rattle.score.specs.Score.{Score, noteAt, count, place, pitch, drawsIn}
-use Rattle.calls.specs.Frames.{samplesIn}
+use Rattle.score_contract.specs.Frames.{samplesIn}
 
 -- the first m values of f, as a slice holds them
 unfoldable pub values : (ℕ → Float) → ℕ → List Float

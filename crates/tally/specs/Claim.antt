@@ -4,7 +4,7 @@ use mathlib.Core.Path.{_≡_}
 use mathlib.Core.List.{List, [], _∷_, map}
 use lib.ListN.{length}
 use Rattle.outcome.specs.Answer.{Result, seen}
-use Rattle.calls.specs.ScoreCall.{Event, Scored, scoreIn}
+use Rattle.score_contract.specs.ScoreCall.{Event, Scored, scoreIn}
 use Rattle.session.specs.Opened.{sessionAt}
 use Rattle.session.specs.declared.Session.{Session}
 use Rattle.tally.specs.Tally.{Call, tally, total}

@@ -11,7 +11,7 @@ use Rattle.dsl.specs.declared.note.Decoded.{Decoded}
 use Rattle.dsl.specs.declared.note.Decoded.the-variants.{Note, Kind}
 use Rattle.envelope.specs.Envelope.{adsrAt}
 use Rattle.score.specs.Score.{Score, noteAt, place, drawsBefore}
-use Rattle.calls.specs.Frames.{samplesIn}
+use Rattle.score_contract.specs.Frames.{samplesIn}
 
 -- whether frame i is one of the m frames from `start` on
 abbrev pub among : ℕ → ℕ → ℕ → Bool

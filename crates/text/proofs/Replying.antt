@@ -9,8 +9,8 @@ use borrow.Author.Tests.{lt-ltb, le-ltb, ltb-false}
 use lib.Dec.{ltb}
 use lib.ListN.{length, take, drop, length-append}
 use Rattle.laws.proofs.If.{if-true, if-false}
-use Rattle.listing.specs.Printed.{Printed, put}
-use Rattle.listing.proofs.Put.{printed-text}
+use Rattle.text_listing.specs.Printed.{Printed, put}
+use Rattle.text_listing.proofs.Put.{printed-text}
 use Rattle.text.specs.Listing.{listing}
 use Rattle.text.specs.Reply.{short, Replied}
 use Rattle.text.specs.declared.call.Reply.{Reply}

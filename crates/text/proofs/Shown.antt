@@ -7,19 +7,19 @@ use lib.ListN.{length}
 use Rattle.laws.proofs.If.{if-true, if-false}
 use Rattle.rng.specs.SplitMix64.{stateAfter}
 use Rattle.outcome.specs.Answer.{Result}
-use Rattle.calls.specs.ScoreCall.{Event, Scored}
+use Rattle.score_contract.specs.ScoreCall.{Event, Scored}
 use Rattle.session.specs.Opened.{sessionAt}
 use Rattle.score.specs.declared.seq.Seq.{Seq}
 use Rattle.session.specs.declared.Session.{Session}
 use Rattle.tally.specs.Tally.{Call, tally}
 use Rattle.tally.specs.Claim.{none, call, callIn, seenIn}
 use Rattle.tally.proofs.AllCalls.{all-calls}
-use Rattle.digits.specs.Read.{got, broken}
-use Rattle.read.specs.Notes.{countOf}
-use Rattle.read.specs.Text.{Text, textOf}
-use Rattle.read.specs.declared.text.TextScore.{TextScore}
-use Rattle.read.proofs.Said.{Said}
-use Rattle.listing.specs.Lines.{lineR}
+use Rattle.text_digits.specs.Read.{got, broken}
+use Rattle.text_read.specs.Notes.{countOf}
+use Rattle.text_read.specs.Text.{Text, textOf}
+use Rattle.text_read.specs.declared.text.TextScore.{TextScore}
+use Rattle.text_read.proofs.Said.{Said}
+use Rattle.text_listing.specs.Lines.{lineR}
 use Rattle.text.specs.Listing.{callOf, shownAt, shownOne, shown, played, listingRead, listing}
 
 -- a session at a draw shows what its seed and that draw do

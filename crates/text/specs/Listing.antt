@@ -9,10 +9,10 @@ use Rattle.outcome.specs.Answer.{Result, refused, accepted}
 use Rattle.score.specs.Score.{scoreOf}
 use Rattle.score.specs.declared.seq.Seq.{Seq}
 use Rattle.tally.specs.Tally.{Call, Tally, tally}
-use Rattle.digits.specs.Read.{Read, got, broken}
-use Rattle.read.specs.Text.{Text, textOf}
-use Rattle.read.specs.Notes.{countOf}
-use Rattle.listing.specs.Lines.{listingOf, lineR}
+use Rattle.text_digits.specs.Read.{Read, got, broken}
+use Rattle.text_read.specs.Text.{Text, textOf}
+use Rattle.text_read.specs.Notes.{countOf}
+use Rattle.text_listing.specs.Lines.{listingOf, lineR}
 
 -- the score call of some numbers and a voice, note words and n frames: an empty lane ("Text pitches are numbers, never curves"), a note buffer of 2,048 values and a string
 -- buffer of 9,600, so that neither 20 nor 21 applies

@@ -2,7 +2,7 @@
 ghost use Prim.Native.Nat.{_≤_};
 ghost use lib.ListN.{length};
 ghost use Rattle.outcome.specs.Answer.{seen};
-ghost use Rattle.listing.specs.Printed.{Printed};
+ghost use Rattle.text_listing.specs.Printed.{Printed};
 ghost use Rattle.text.specs.Listing.{shownAt};
 use outcome::Outcome;
 use session::Answer;
@@ -19,8 +19,8 @@ pub fn print_answer(page: &mut [u8], answer: Answer, frames: &[f32]) -> usize
         Outcome::Played(_) => {
             let session = answer.session;
             let rng = session.rng;
-            listing::put_listing(page, rng.state(), session.draw, frames)
+            text_listing::put_listing(page, rng.state(), session.draw, frames)
         }
-        Outcome::Refused(refusal) => listing::put_refusal(page, refusal.number()),
+        Outcome::Refused(refusal) => text_listing::put_refusal(page, refusal.number()),
     }
 }

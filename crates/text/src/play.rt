@@ -1,7 +1,7 @@
 // The score call of a text score.
 ghost use Prim.Native.Nat.{_≤_};
 ghost use lib.ListN.{length};
-ghost use Rattle.listing.specs.Printed.{Printed};
+ghost use Rattle.text_listing.specs.Printed.{Printed};
 ghost use Rattle.text.specs.Listing.{played};
 use crate::answer::print_answer;
 use crate::buffers::frames_buffer;

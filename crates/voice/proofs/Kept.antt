@@ -7,8 +7,8 @@ use lib.ListN.{length, drop}
 use lib.Seq.{drop-append-add, drop-drop}
 use lib.Ieee.{Float}
 use Rattle.dsl.specs.declared.knobs.PluckKnobs.{PluckKnobs}
-use Rattle.plucked.specs.Pluck.{pluckString}
-use Rattle.plucked.proofs.Rings.{pluck-string-length}
+use Rattle.voice_pluck.specs.Pluck.{pluckString}
+use Rattle.voice_pluck.proofs.Rings.{pluck-string-length}
 
 pub kept-past : (m : ℕ) (A l : List Float) (e : ℕ) → length A ≡ e → e ≤ m → drop m (A ++ drop e l) ≡ drop m l
 kept-past m A l e len most =

@@ -10,13 +10,13 @@ use Rattle.laws.proofs.Fill.{samples-length}
 use Rattle.laws.proofs.Same.{Below}
 use Rattle.dsl.specs.declared.wave.SeqWave.{SeqWave}
 use Rattle.dsl.specs.declared.wave.SeqWave.the-variants.{Square, Triangle, Sawtooth, Sine, Noise, Fm, Pluck, Piano, Epiano, Organ, Strings, Brass, Flute, Mallet, Bell, Bass, Cowbell}
-use Rattle.waves.specs.Pulse.{squareFrames, triangleFrames}
-use Rattle.waves.specs.Plain.{sawtoothFrames, sineFrames}
-use Rattle.waves.specs.Noise.{noiseFrames}
-use Rattle.waves.specs.Fm.{fmFrames}
-use Rattle.kit.specs.Voice.{cowbellFrames}
-use Rattle.waves.proofs.Own.{squareSame, triangleSame, sawtoothSame, sineSame, fmSame}
-use Rattle.kit.proofs.Own.{cowbellSame}
+use Rattle.voice_waves.specs.Pulse.{squareFrames, triangleFrames}
+use Rattle.voice_waves.specs.Plain.{sawtoothFrames, sineFrames}
+use Rattle.voice_waves.specs.Noise.{noiseFrames}
+use Rattle.voice_waves.specs.Fm.{fmFrames}
+use Rattle.voice_cowbell.specs.Voice.{cowbellFrames}
+use Rattle.voice_waves.proofs.Own.{squareSame, triangleSame, sawtoothSame, sineSame, fmSame}
+use Rattle.voice_cowbell.proofs.Own.{cowbellSame}
 use Rattle.struck.specs.Epiano.{epianoFrames}
 use Rattle.chimed.specs.Mallet.{malletFrames}
 use Rattle.chimed.specs.Bell.{bellFrames}
@@ -29,9 +29,9 @@ use Rattle.blown.specs.Brass.{brassFrames}
 use Rattle.blown.specs.Flute.{fluteFrames}
 use Rattle.sustained.proofs.Own.{organSame, stringsSame}
 use Rattle.blown.proofs.Own.{brassSame, fluteSame}
-use Rattle.plucked.specs.Pluck.{ringFrames, pluckFrames}
-use Rattle.stringed.specs.Piano.{soundFrames, pianoFrames}
-use Rattle.stringed.proofs.Pianos.{piano-same}
+use Rattle.voice_pluck.specs.Pluck.{ringFrames, pluckFrames}
+use Rattle.voice_piano.specs.Piano.{soundFrames, pianoFrames}
+use Rattle.voice_piano.proofs.Pianos.{piano-same}
 use Rattle.counts.specs.Period.{periodOf}
 use Rattle.voice.specs.Voice.{waveFrames, noteFrames}
 use Rattle.dsl.specs.declared.knobs.SeqVoice.{SeqVoice}

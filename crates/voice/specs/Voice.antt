@@ -5,11 +5,11 @@ use lib.Ieee.{Float}
 use Rattle.ieee.specs.Numbers.{f32}
 use Rattle.dsl.specs.declared.wave.SeqWave.{SeqWave}
 use Rattle.dsl.specs.declared.wave.SeqWave.the-variants.{Square, Triangle, Sawtooth, Sine, Noise, Fm, Pluck, Piano, Epiano, Organ, Strings, Brass, Flute, Mallet, Bell, Bass, Cowbell}
-use Rattle.waves.specs.Pulse.{squareFrames, triangleFrames}
-use Rattle.waves.specs.Plain.{sawtoothFrames, sineFrames}
-use Rattle.waves.specs.Noise.{noiseFrames}
-use Rattle.waves.specs.Fm.{fmFrames}
-use Rattle.kit.specs.Voice.{cowbellFrames}
+use Rattle.voice_waves.specs.Pulse.{squareFrames, triangleFrames}
+use Rattle.voice_waves.specs.Plain.{sawtoothFrames, sineFrames}
+use Rattle.voice_waves.specs.Noise.{noiseFrames}
+use Rattle.voice_waves.specs.Fm.{fmFrames}
+use Rattle.voice_cowbell.specs.Voice.{cowbellFrames}
 use Rattle.struck.specs.Epiano.{epianoFrames}
 use Rattle.chimed.specs.Mallet.{malletFrames}
 use Rattle.chimed.specs.Bell.{bellFrames}
@@ -18,8 +18,8 @@ use Rattle.sustained.specs.Organ.{organFrames}
 use Rattle.sustained.specs.Strings.{stringsFrames}
 use Rattle.blown.specs.Brass.{brassFrames}
 use Rattle.blown.specs.Flute.{fluteFrames}
-use Rattle.plucked.specs.Pluck.{pluckFrames}
-use Rattle.stringed.specs.Piano.{pianoFrames}
+use Rattle.voice_pluck.specs.Pluck.{pluckFrames}
+use Rattle.voice_piano.specs.Piano.{pianoFrames}
 use Rattle.counts.specs.Period.{periodOf}
 use Rattle.dsl.specs.declared.knobs.SeqVoice.{SeqVoice}
 

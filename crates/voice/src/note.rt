@@ -40,17 +40,17 @@ pub fn voice_note(
     let srf = std::num::nearest_u32_to_f32(rate);
     let wave = voice.wave;
     match wave {
-        SeqWave::Square => waves::square(pitch, lane, duty, duties, srf, out),
-        SeqWave::Triangle => waves::triangle(pitch, lane, srf, out),
-        SeqWave::Sawtooth => waves::sawtooth(pitch, lane, srf, out),
-        SeqWave::Sine => waves::sine(pitch, lane, srf, out),
-        SeqWave::Noise => return waves::noise(rng, out),
-        SeqWave::Fm => waves::fm(pitch, lane, voice.fm, gain, srf, out),
+        SeqWave::Square => voice_waves::square(pitch, lane, duty, duties, srf, out),
+        SeqWave::Triangle => voice_waves::triangle(pitch, lane, srf, out),
+        SeqWave::Sawtooth => voice_waves::sawtooth(pitch, lane, srf, out),
+        SeqWave::Sine => voice_waves::sine(pitch, lane, srf, out),
+        SeqWave::Noise => return voice_waves::noise(rng, out),
+        SeqWave::Fm => voice_waves::fm(pitch, lane, voice.fm, gain, srf, out),
         SeqWave::Pluck => {
             return pluck_string(rng, rate, voice.pluck, pitch.at(lane, 0), out, string);
         }
         SeqWave::Piano => {
-            return stringed::piano_note(voice.piano, gain, pitch, lane, srf, rng, out);
+            return voice_piano::piano_note(voice.piano, gain, pitch, lane, srf, rng, out);
         }
         SeqWave::Epiano => struck::epiano_note(pitch, lane, gain, srf, out),
         SeqWave::Organ => sustained::organ_note(pitch, lane, srf, out),
@@ -60,7 +60,7 @@ pub fn voice_note(
         SeqWave::Mallet => chimed::mallet_note(pitch, lane, gain, srf, out),
         SeqWave::Bell => chimed::bell_note(pitch, lane, srf, out),
         SeqWave::Bass => struck::bass_note(pitch, lane, voice.bass, gain, srf, out),
-        SeqWave::Cowbell => kit::cowbell(pitch, lane, srf, out),
+        SeqWave::Cowbell => voice_cowbell::cowbell(pitch, lane, srf, out),
     }
     rng
 }

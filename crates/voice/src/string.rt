@@ -6,7 +6,7 @@ ghost use Rattle.ieee.specs.Numbers.{f32};
 ghost use Rattle.dsl.specs.Domain.{Rate};
 ghost use Rattle.rng.specs.SplitMix64.{stateAfter};
 ghost use Rattle.counts.specs.Period.{periodOf};
-ghost use Rattle.plucked.specs.Pluck.{pluckFrames};
+ghost use Rattle.voice_pluck.specs.Pluck.{pluckFrames};
 use dsl::PluckKnobs;
 use rng::Rng;
 
@@ -28,5 +28,5 @@ pub fn pluck_string(
 {
     let period = counts::string_period(rate, first);
     let srf = std::num::nearest_u32_to_f32(rate);
-    plucked::pluck_note(knobs, srf, period, rng, string, out)
+    voice_pluck::pluck_note(knobs, srf, period, rng, string, out)
 }

@@ -4,8 +4,8 @@ use mathlib.Core.Path.{sym}
 use native.Mathlib.Omega.{arith}
 use lib.ListN.{length}
 use lib.Seq.{length-take-le}
-use Rattle.read.proofs.Said.{parsed-broken, parsed-score, said-words}
-use Rattle.listing.proofs.Put.{printed-as}
+use Rattle.text_read.proofs.Said.{parsed-broken, parsed-score, said-words}
+use Rattle.text_listing.proofs.Put.{printed-as}
 use Rattle.text.proofs.Shown.{listing-long, listing-broken, listing-frames, listing-notes, listing-played}
 use borrow.Author.Needs.{needs}
 use Rattle.text.proofs.call.print_listing.Statement.{statement}

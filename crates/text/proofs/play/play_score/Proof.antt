@@ -6,7 +6,7 @@ use native.Mathlib.Omega.{arith}
 use lib.ListN.{length, drop, length-append}
 use lib.Seq.{length-take-le, take-at}
 use Rattle.score.specs.Score.{scoreOf}
-use Rattle.listing.proofs.Put.{printed-as}
+use Rattle.text_listing.proofs.Put.{printed-as}
 use Rattle.text.proofs.Shown.{played-by}
 use borrow.Author.Needs.{needs}
 use Rattle.text.proofs.play.play_score.Statement.{statement}

@@ -6,7 +6,7 @@ use Rattle.rng.specs.SplitMix64.{stateAfter}
 use Rattle.rng.specs.declared.Rng.{Rng}
 use Rattle.rng.proofs.States.{state-none}
 use Rattle.dsl.proofs.Reach.{reaches-less}
-use Rattle.waves.proofs.Own.{noiseDraws}
+use Rattle.voice_waves.proofs.Own.{noiseDraws}
 use Rattle.blown.proofs.Draws.{fluteDraws}
 use Rattle.counts.specs.Draws.{drawsOf}
 use Rattle.counts.proofs.Thump.{thump-count}

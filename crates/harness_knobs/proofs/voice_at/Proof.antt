@@ -1,0 +1,57 @@
+-- `harness_knobs::voice_at` meets its contract. Assumes nothing.
+use mathlib.Core.Path.{refl}
+use borrow.Author.Tests.{eq-eqb, ne-eqb}
+use Rattle.laws.proofs.If.{if-true, if-false}
+use Rattle.harness_knobs.specs.Knobs.{voiceAt}
+use borrow.Author.Needs.{needs}
+use Rattle.harness_knobs.proofs.voice_at.Statement.{statement}
+use Rattle.harness_knobs.proofs.voice_at.Tie as tie
+
+returns : tie.Need-returns
+unfolding voiceAt
+returns c = if-false _ (ne-eqb _ _ (c .if1 .taken)) refl
+
+at-requires : tie.Need-at-requires
+at-requires c κs = search needs
+
+enum-known-wave : tie.Need-enum-known-wave
+enum-known-wave c = search needs
+
+enum-told : tie.Need-enum-told
+enum-told c = search needs
+
+returns-2 : tie.Need-returns-2
+unfolding voiceAt
+returns-2 c = if-true _ (eq-eqb _ _ (c .before .before .before .if1 .left)) (rw (← (c .before .before .at .ensures), c .enum-told .given .1))
+
+fm-knobs-requires : tie.Need-fm-knobs-requires
+fm-knobs-requires c κs = search needs
+
+pluck-knobs-requires : tie.Need-pluck-knobs-requires
+pluck-knobs-requires c κs = search needs
+
+piano-knobs-requires : tie.Need-piano-knobs-requires
+piano-knobs-requires c κs = search needs
+
+bass-knobs-requires : tie.Need-bass-knobs-requires
+bass-knobs-requires c κs = search needs
+
+returns-3 : tie.Need-returns-3
+unfolding voiceAt
+returns-3 c =
+    if-true _ (eq-eqb _ _ (c .before .before .before .before .before .before .before .before .if1 .left)) (rw (← (c .before .before .before .before .before .before .before .at .ensures), c .before .before .before .before .before .wave .given .1, c .bass-knobs .ensures, c .before .piano-knobs .ensures, c .before .before .pluck-knobs .ensures, c .before .before .before .fm-knobs .ensures))
+
+pub voice-at-spec : {M : Type 1} → statement M
+voice-at-spec =
+    tie.close
+    (tie.spec
+    returns
+    at-requires
+    enum-known-wave
+    enum-told
+    returns-2
+    fm-knobs-requires
+    pluck-knobs-requires
+    piano-knobs-requires
+    bass-knobs-requires
+    returns-3)

@@ -1,0 +1,95 @@
+-- `text_digits::decimal` meets its contract. The loop's invariant: reading on from here gives what reading from the start gives, and v fits. Assumes nothing.
+use borrow.Author.Needs.{needs}
+use Prim.Native.Nat.{_-_, _≤_}
+use mathlib.Core.Path.{_≡_, _∙_}
+use native.Mathlib.Omega.{arith}
+use lib.ListN.{length, drop}
+use Rattle.text_digits.specs.Read.{decimal, digitsFrom, fitting}
+use Rattle.text_digits.proofs.Reading.{decimal-none, decimal-zero, decimal-bad, decimal-start, digits-end, digits-stop, digits-more, digits-over}
+use Rattle.text_digits.proofs.decimal.Statement.{statement}
+use Rattle.text_digits.proofs.decimal.Tie as tie
+
+abbrev Inv-loop : tie.InvT-loop
+Inv-loop s start most first at₀ v₀ at v = (v ≤ most) × (fitting most (digitsFrom v (drop at s)) ≡ decimal most (drop start s))
+
+abbrev μ-loop : tie.MeasureT-loop
+μ-loop s start most first at₀ v₀ at v = length s - at
+
+returns : tie.Need-returns Inv-loop μ-loop
+returns c = decimal-none _ _ _ 0 (c .if1 .taken)
+
+shared-slice-read-first : tie.Need-shared-slice-read-first Inv-loop μ-loop
+shared-slice-read-first c = search needs
+
+add-at : tie.Need-add-at Inv-loop μ-loop
+add-at c = search needs
+
+returns-2 : tie.Need-returns-2 Inv-loop μ-loop
+returns-2 c = decimal-zero _ _ _ 0 (c .before .before .if1 .left) (c .if2 .taken)
+
+digit-requires : tie.Need-digit-requires Inv-loop μ-loop
+digit-requires c κs = search needs
+
+returns-3 : tie.Need-returns-3 Inv-loop μ-loop
+returns-3 c = decimal-bad _ _ _ _ (c .before .before .before .before .if1 .left) (c .before .before .if2 .left) (c .before .digit .ensures) (c .if3 .taken)
+
+loop-holds : tie.Need-loop-holds Inv-loop μ-loop
+loop-holds c = (omega arith, decimal-start _ _ _ _ (c .before .before .before .before .if1 .left) (c .before .before .if2 .left) (c .before .digit .ensures) (c .if3 .left))
+
+shared-slice-read-digit : tie.Need-shared-slice-read-digit Inv-loop μ-loop
+shared-slice-read-digit c = search needs
+
+digit-requires-2 : tie.Need-digit-requires-2 Inv-loop μ-loop
+digit-requires-2 c κs = search needs
+
+returns-4 : tie.Need-returns-4 Inv-loop μ-loop
+returns-4 c = digits-stop _ _ _ _ _ (c .before .before .before .loop-test .taken) (c .before .digit2 .ensures) (c .if4 .taken) (c .before .before .before .before .loop .inv .0) ∙ c .before .before .before .before .loop .inv .1
+
+sub-if5 : tie.Need-sub-if5 Inv-loop μ-loop
+sub-if5 c = omega arith
+
+returns-5 : tie.Need-returns-5 Inv-loop μ-loop
+returns-5 c = digits-over _ _ _ (omega arith) ∙ digits-more _ _ _ _ _ (c .before .before .before .before .loop-test .taken) (c .before .before .digit2 .ensures) (c .before .if4 .left) ∙ c .before .before .before .before .before .loop .inv .1
+
+mul-v : tie.Need-mul-v Inv-loop μ-loop
+mul-v c = omega arith
+
+add-v : tie.Need-add-v Inv-loop μ-loop
+add-v c = omega arith
+
+add-at-2 : tie.Need-add-at-2 Inv-loop μ-loop
+add-at-2 c = search needs
+
+loop-less : tie.Need-loop-less Inv-loop μ-loop
+loop-less c = search needs
+
+loop-again : tie.Need-loop-again Inv-loop μ-loop
+loop-again c = (omega arith, digits-more _ _ _ _ _ (c .before .before .before .before .loop-test .taken) (c .before .before .digit2 .ensures) (c .before .if4 .left) ∙ c .before .before .before .before .before .loop .inv .1)
+
+returns-6 : tie.Need-returns-6 Inv-loop μ-loop
+returns-6 c = digits-end _ _ _ _ 0 (c .loop-test .left) (c .before .loop .inv .0) ∙ c .before .loop .inv .1
+
+pub decimal-spec : {M : Type 1} → statement M
+decimal-spec =
+    tie.close
+    (tie.spec
+    Inv-loop
+    μ-loop
+    returns
+    shared-slice-read-first
+    add-at
+    returns-2
+    digit-requires
+    returns-3
+    loop-holds
+    shared-slice-read-digit
+    digit-requires-2
+    returns-4
+    sub-if5
+    returns-5
+    mul-v
+    add-v
+    add-at-2
+    loop-less
+    loop-again
+    returns-6)

@@ -1,0 +1,45 @@
+-- `text_lines::ending` meets its contract. Assumes nothing.
+use Rattle.text_lines.proofs.Reading.{placed}
+use Rattle.text_lines.specs.Line.{ending}
+use borrow.Author.Needs.{needs}
+use Rattle.text_lines.proofs.ending.Statement.{statement}
+use Rattle.text_lines.proofs.ending.Tie as tie
+
+fields-requires : tie.Need-fields-requires
+fields-requires c κs = search needs
+
+enum-known-last : tie.Need-enum-known-last
+enum-known-last c = search needs
+
+enum-told : tie.Need-enum-told
+enum-told c = search needs
+
+same-length : tie.Need-same-length
+same-length c = search needs
+
+returns : tie.Need-returns
+unfolding ending
+returns c = rw (← (rw (c .enum-told .given .1) at (c .before .before .before .before .fields .ensures)))
+
+expect-requires : tie.Need-expect-requires
+expect-requires c κs = search needs
+
+same-length-2 : tie.Need-same-length-2
+same-length-2 c = search needs
+
+returns-2 : tie.Need-returns-2
+unfolding ending
+returns-2 c = rw (← (rw (c .before .before .last .given .1) at (c .before .before .before .before .before .before .fields .ensures))) (placed _ 10 _ (c .expect .result) (c .expect .ensures))
+
+pub ending-spec : {M : Type 1} → statement M
+ending-spec =
+    tie.close
+    (tie.spec
+    fields-requires
+    enum-known-last
+    enum-told
+    same-length
+    returns
+    expect-requires
+    same-length-2
+    returns-2)

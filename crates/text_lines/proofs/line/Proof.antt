@@ -1,0 +1,40 @@
+-- `text_lines::line` meets its contract. Assumes nothing.
+use Rattle.text_lines.specs.Line.{line}
+use borrow.Author.Needs.{needs}
+use Rattle.text_lines.proofs.line.Statement.{statement}
+use Rattle.text_lines.proofs.line.Tie as tie
+
+expect-requires : tie.Need-expect-requires
+expect-requires c κs = search needs
+
+enum-known-next : tie.Need-enum-known-next
+enum-known-next c = search needs
+
+enum-told : tie.Need-enum-told
+enum-told c = search needs
+
+returns : tie.Need-returns
+unfolding line
+returns c = rw (← (rw (c .enum-told .given .1) at (c .before .before .expect .ensures)))
+
+ending-requires : tie.Need-ending-requires
+ending-requires c κs = search needs
+
+same-length : tie.Need-same-length
+same-length c = search needs
+
+returns-2 : tie.Need-returns-2
+unfolding line
+returns-2 c = rw (← (rw (c .before .before .before .before .before .next .given .1) at (c .before .before .before .before .before .before .before .expect .ensures))) (c .before .before .ending .ensures)
+
+pub line-spec : {M : Type 1} → statement M
+line-spec =
+    tie.close
+    (tie.spec
+    expect-requires
+    enum-known-next
+    enum-told
+    returns
+    ending-requires
+    same-length
+    returns-2)

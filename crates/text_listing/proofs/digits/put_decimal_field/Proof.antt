@@ -1,0 +1,22 @@
+-- `text_listing::digits::put_decimal_field` meets its contract. Assumes nothing.
+use mathlib.Core.List.{[], _∷_}
+use Rattle.text_listing.proofs.Put.{printed-both}
+use borrow.Author.Needs.{needs}
+use Rattle.text_listing.proofs.digits.put_decimal_field.Statement.{statement}
+use Rattle.text_listing.proofs.digits.put_decimal_field.Tie as tie
+
+put-byte-requires : tie.Need-put-byte-requires
+put-byte-requires c κs = search needs
+
+put-decimal-requires : tie.Need-put-decimal-requires
+put-decimal-requires c κs = search needs
+
+same-length : tie.Need-same-length
+same-length c = search needs
+
+returns : tie.Need-returns
+returns c = printed-both (9 ∷ []) _ (c .before .before .before .before .before .before .before .before .before .pre) (c .before .before .before .before .before .before .put-byte .ensures) (c .before .before .put-decimal .ensures)
+
+pub put-decimal-field-spec : {M : Type 1} → statement M
+put-decimal-field-spec =
+    tie.close (tie.spec put-byte-requires put-decimal-requires same-length returns)

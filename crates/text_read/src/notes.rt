@@ -1,0 +1,70 @@
+// The lines N.
+ghost use mathlib.Core.Path.{_≡_};
+ghost use mathlib.Core.List.{[], _∷_, _++_};
+ghost use Prim.Native.Nat.{_+_, _*_, _≤_};
+ghost use lib.ListN.{length, take, drop};
+ghost use Rattle.text_read.specs.Notes.{note, notesOf, Noted};
+ghost use Rattle.text_read.specs.Answers.{noteIn};
+use text_digits::Place;
+use text_lines::FLOAT;
+use text_lines::WORD;
+use text_lines::line;
+
+// Step, len, the bits of pitch and gain, and the place after the line.
+pub enum LineN {
+    At(u32, u32, u32, u32, usize),
+    Broken,
+}
+
+// A line of four fields, or one that stops after pitch and has the gain 1.
+fn line_n(s: &[u8], at: usize) -> LineN
+    ensures { λ r. ⌜ noteIn (now (s .entry)) r ≡ note (drop at (now (s .entry))) ⌝ }
+{
+    let mut whole = [0u32; 4];
+    if let Place::At(next) = line(s, at, b'N', &[WORD, WORD, FLOAT, FLOAT], &mut whole) {
+        return LineN::At(whole[0], whole[1], whole[2], whole[3], next);
+    }
+    let mut short = [0u32; 3];
+    if let Place::At(last) = line(s, at, b'N', &[WORD, WORD, FLOAT], &mut short) {
+        return LineN::At(short[0], short[1], short[2], 0x3f80_0000, last);
+    }
+    LineN::Broken
+}
+
+// The words of note n into their place of `words`, if that has room for them.
+fn store_note(words: &mut [u32], n: usize, step: u32, len: u32, pitch: u32, gain: u32)
+    ensures { λ _. ⌜ (n * 5 + 5 ≤ length (now (words .entry)) → now (words .exit) ≡ take (n * 5) (now (words .entry)) ++ ((step ∷ len ∷ 0 ∷ pitch ∷ gain ∷ []) ++ drop (n * 5 + 5) (now (words .entry)))) ⌝ }
+{
+    if n < words.len() / 5 {
+        let at = n * 5;
+        words[at] = step;
+        words[at + 1] = len;
+        words[at + 2] = 0;
+        words[at + 3] = pitch;
+        words[at + 4] = gain;
+    }
+}
+
+// How many lines there are.
+pub enum Count {
+    Lines(usize),
+    Broken,
+}
+
+// The lines to the end of s, their words into `words`. Lines are counted and judged on where `words`
+// has no more room.
+pub fn notes(s: &[u8], start: usize, words: &mut [u32]) -> Count
+    ensures { λ r. ⌜ Noted (notesOf (drop start (now (s .entry)))) (now (words .entry)) r (now (words .exit)) ⌝ }
+{
+    let mut at = start;
+    let mut n: usize = 0;
+    while at < s.len() {
+        let LineN::At(step, len, pitch, gain, next) = line_n(s, at) else {
+            return Count::Broken;
+        };
+        store_note(words, n, step, len, pitch, gain);
+        n += 1;
+        at = next;
+    }
+    Count::Lines(n)
+}

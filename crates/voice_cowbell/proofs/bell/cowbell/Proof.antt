@@ -1,0 +1,61 @@
+-- `voice_cowbell::bell::cowbell` meets its contract: the loop fills `out` by the law `Filled`, with no state. Assumes nothing.
+use Prim.Native.Nat.{ℕ, _-_}
+use native.Mathlib.Omega.{arith}
+use borrow.Author.Needs.{needs}
+use lib.ListN.{length}
+use Rattle.laws.proofs.Fill.{Filled, filled-none, filled-more, filled-frames, filled-length}
+use Rattle.dsl.specs.Pitch.{pitchAt}
+use Rattle.dsl.proofs.Reach.{reaches-less}
+use Rattle.voice_cowbell.specs.Voice.{cowbellAt, cowbellFrames}
+use Rattle.voice_cowbell.proofs.bell.cowbell.Statement.{statement}
+use Rattle.voice_cowbell.proofs.bell.cowbell.Tie as tie
+
+abbrev Inv-loop : tie.InvT-loop
+Inv-loop pitch lane srf out₀ i₀ out i = Filled (λ i (s : ℕ). cowbellAt (pitchAt pitch lane) srf i) (λ r. r) (λ r. 0) 0 out₀ i out 0
+
+abbrev μ-loop : tie.MeasureT-loop
+μ-loop pitch lane srf out₀ i₀ out i = length out₀ - i
+
+loop-holds : tie.Need-loop-holds Inv-loop μ-loop
+loop-holds c = filled-none
+
+cowbell-at-requires : tie.Need-cowbell-at-requires Inv-loop μ-loop
+cowbell-at-requires c κs = (omega (arith, filled-length (c .before .loop .inv)), reaches-less (c .before .before .before .before .args .pitch) _ _ _ (c .before .before .before .before .pre .1) (omega (arith, filled-length (c .before .loop .inv))))
+
+mul-out : tie.Need-mul-out Inv-loop μ-loop
+mul-out c = search needs
+
+slice-write-out : tie.Need-slice-write-out Inv-loop μ-loop
+slice-write-out c = omega (arith, filled-length (c .before .before .loop .inv))
+
+add-i : tie.Need-add-i Inv-loop μ-loop
+add-i c = search needs
+
+loop-less : tie.Need-loop-less Inv-loop μ-loop
+loop-less c = omega (arith, filled-length (c .before .before .loop .inv))
+
+loop-again : tie.Need-loop-again Inv-loop μ-loop
+loop-again c = filled-more (c .before .before .loop .inv) (omega (arith, filled-length (c .before .before .loop .inv))) (c .cowbell-at .ensures)
+
+same-length : tie.Need-same-length Inv-loop μ-loop
+same-length c = filled-length (c .before .loop .inv)
+
+returns : tie.Need-returns Inv-loop μ-loop
+unfolding cowbellFrames
+returns c = filled-frames (c .before .loop .inv) (omega (arith, filled-length (c .before .loop .inv))) (omega arith)
+
+pub cowbell-spec : {M : Type 1} → statement M
+cowbell-spec =
+    tie.close
+    (tie.spec
+    Inv-loop
+    μ-loop
+    loop-holds
+    cowbell-at-requires
+    mul-out
+    slice-write-out
+    add-i
+    loop-less
+    loop-again
+    same-length
+    returns)

@@ -1,0 +1,69 @@
+-- `voice_piano::hammer::piano_partials` meets its contract, by the laws of `Built`. Assumes nothing.
+use Prim.Native.Nat.{_-_}
+use mathlib.Core.Path.{refl}
+use native.Mathlib.Omega.{arith}
+use borrow.Author.Needs.{needs}
+use Rattle.voice_piano.proofs.Built.{Built, built-none, built-here, built-more, built-all}
+use Rattle.voice_piano.proofs.hammer.piano_partials.Statement.{statement}
+use Rattle.voice_piano.proofs.hammer.piano_partials.Tie as tie
+
+abbrev Inv-loop : tie.InvT-loop
+Inv-loop b srf items₀ j₀ items j = Built b srf j items
+
+abbrev μ-loop : tie.MeasureT-loop
+μ-loop b srf items₀ j₀ items j = 18 - j
+
+loop-holds : tie.Need-loop-holds Inv-loop μ-loop
+loop-holds c = built-none _ refl
+
+add-ratio-of : tie.Need-add-ratio-of Inv-loop μ-loop
+add-ratio-of c = search needs
+
+ratio-of-requires : tie.Need-ratio-of-requires Inv-loop μ-loop
+ratio-of-requires c κs = omega arith
+
+returns : tie.Need-returns Inv-loop μ-loop
+returns c = ((c .before .before .before .before .loop .inv) .within, built-here (c .before .before .before .before .loop .inv) (omega arith) (rw (c .before .before .ratio-of .ensures) at (c .if1 .taken)))
+
+add-partial-of : tie.Need-add-partial-of Inv-loop μ-loop
+add-partial-of c = search needs
+
+partial-of-requires : tie.Need-partial-of-requires Inv-loop μ-loop
+partial-of-requires c κs = omega arith
+
+mul-items : tie.Need-mul-items Inv-loop μ-loop
+mul-items c = search needs
+
+array-set-from-items : tie.Need-array-set-from-items Inv-loop μ-loop
+array-set-from-items c = omega (arith, (c .before .before .before .before .before .loop .inv) .room)
+
+add-j : tie.Need-add-j Inv-loop μ-loop
+add-j c = search needs
+
+loop-less : tie.Need-loop-less Inv-loop μ-loop
+loop-less c = omega arith
+
+loop-again : tie.Need-loop-again Inv-loop μ-loop
+loop-again c = built-more (c .before .before .before .before .before .loop .inv) (omega arith) (rw (c .before .before .before .ratio-of .ensures) at (c .before .if1 .left)) (rw (c .before .before .before .ratio-of .ensures) at (c .partial-of .ensures))
+
+returns-2 : tie.Need-returns-2 Inv-loop μ-loop
+returns-2 c = ((c .before .loop .inv) .within, built-all (c .before .loop .inv) (omega arith))
+
+pub piano-partials-spec : {M : Type 1} → statement M
+piano-partials-spec =
+    tie.close
+    (tie.spec
+    Inv-loop
+    μ-loop
+    loop-holds
+    add-ratio-of
+    ratio-of-requires
+    returns
+    add-partial-of
+    partial-of-requires
+    mul-items
+    array-set-from-items
+    add-j
+    loop-less
+    loop-again
+    returns-2)

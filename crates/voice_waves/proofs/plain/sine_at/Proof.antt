@@ -1,0 +1,25 @@
+-- `voice_waves::plain::sine_at` meets its contract: each call by what it ensures. Assumes nothing.
+use Rattle.voice_waves.specs.Plain.{sineAt}
+use borrow.Author.Needs.{needs}
+use Rattle.voice_waves.proofs.plain.sine_at.Statement.{statement}
+use Rattle.voice_waves.proofs.plain.sine_at.Tie as tie
+
+at-requires : tie.Need-at-requires
+at-requires c κs = search needs
+
+phase-step-requires : tie.Need-phase-step-requires
+phase-step-requires c κs = search needs
+
+osc-requires : tie.Need-osc-requires
+osc-requires c κs = search needs
+
+wrap-requires : tie.Need-wrap-requires
+wrap-requires c κs = search needs
+
+returns : tie.Need-returns
+unfolding sineAt
+returns c = rw (c .wrap .ensures, c .before .osc .ensures, c .before .before .phase-step .ensures, c .before .before .before .at .ensures)
+
+pub sine-at-spec : {M : Type 1} → statement M
+sine-at-spec =
+    tie.close (tie.spec at-requires phase-step-requires osc-requires wrap-requires returns)

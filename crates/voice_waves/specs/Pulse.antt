@@ -1,0 +1,55 @@
+-- `SeqWave::Square` and `SeqWave::Triangle` of `seq_note_signal`. `f` is the pitch and `d` the duty by frame, `srf` the rate.
+use Prim.Native.Nat.{ℕ}
+use mathlib.Core.Bool.{cond}
+use mathlib.Core.List.{List}
+use lib.Ieee.{Float, binary32, ofBits, neg, lt}
+use Rattle.ieee.specs.Numbers.{c0, c0·01, c0·5, c1, c4}
+use Rattle.laws.specs.Run.{samples}
+use Rattle.ieee.specs.Binary32.{_⊕_, _⊖_, _⊗_}
+use Rattle.ieee.specs.Order.{clampOf}
+use Rattle.ieee.specs.Whole.{fractOf}
+use Rattle.osc.specs.Osc.{polyBlep}
+use Rattle.osc.specs.Phase.{wrapped, increment}
+use Rattle.voice_waves.specs.declared.plain.PhaseOut.{PhaseOut}
+use Rattle.voice_waves.specs.declared.pulse.TriangleState.{TriangleState}
+use Rattle.voice_waves.specs.declared.pulse.TriangleOut.{TriangleOut}
+
+-- 0.99
+abbrev pub c0·99 : Float
+c0·99 = ofBits binary32 0x3f7d70a4
+
+-- 0.9995
+abbrev pub c0·9995 : Float
+c0·9995 = ofBits binary32 0x3f7fdf3b
+
+-- if phase < duty { 1.0 } else { -1.0 }
+unfoldable pub levelOf : Float → Float → Float
+levelOf phase duty = cond (lt phase duty) c1 (neg c1)
+
+-- v += poly_blep(phase, dt); v -= poly_blep(second, dt)
+unfoldable pub pulseOf : Float → Float → Float → Float → Float
+unfolding levelOf
+pulseOf phase duty second dt = levelOf phase duty ⊕ polyBlep phase dt ⊖ polyBlep second dt
+
+unfoldable pub squareAt : (ℕ → Float) → (ℕ → Float) → Float → ℕ → Float → PhaseOut
+unfolding pulseOf
+squareAt f d srf i phase =
+    let dt = increment (f i) srf in
+    let duty = clampOf (d i) c0·01 c0·99 in
+    record { sample = pulseOf phase duty (fractOf binary32 (phase ⊖ duty ⊕ c1)) dt; state = wrapped (phase ⊕ dt) }
+
+unfoldable pub squareFrames : (ℕ → Float) → (ℕ → Float) → Float → ℕ → List Float
+unfolding squareAt
+squareFrames f d srf n = samples (squareAt f d srf) (λ r. r .sample) (λ r. r .state) c0 n
+
+unfoldable pub triangleAt : (ℕ → Float) → Float → ℕ → TriangleState → TriangleOut
+unfolding pulseOf
+triangleAt f srf i s =
+    let dt = increment (f i) srf in
+    let sq = pulseOf (s .phase) c0·5 (fractOf binary32 (s .phase ⊕ c0·5)) dt in
+    let tri = s .tri ⊗ c0·9995 ⊕ c4 ⊗ dt ⊗ sq in
+    record { sample = tri; state = record { phase = wrapped (s .phase ⊕ dt); tri = tri } }
+
+unfoldable pub triangleFrames : (ℕ → Float) → Float → ℕ → List Float
+unfolding triangleAt
+triangleFrames f srf n = samples (triangleAt f srf) (λ r. r .sample) (λ r. r .state) (record { phase = c0; tri = c0 }) n

@@ -1,0 +1,120 @@
+// Waves made of two jumps a period, each smoothed by its residual.
+ghost use mathlib.Core.Path.{_≡_};
+ghost use Prim.Native.Nat.{_+_};
+ghost use lib.ListN.{length};
+ghost use lib.Ieee.{binary32};
+ghost use Rattle.ieee.specs.Whole.{fractOf};
+ghost use Rattle.dsl.specs.Pitch.{pitchAt, reaches};
+ghost use Rattle.voice_waves.specs.Pulse.{levelOf, pulseOf, squareAt, squareFrames, triangleAt, triangleFrames};
+use crate::plain::PhaseOut;
+use dsl::Pitch;
+
+// 1 before the second jump, -1 after it.
+fn level(phase: f32, duty: f32) -> f32
+    ensures { λ r. ⌜ r ≡ levelOf phase duty ⌝ }
+{
+    if phase < duty { 1.0 } else { -1.0 }
+}
+
+// The level with both jumps smoothed; `second` is the phase counted from the second jump.
+fn pulse(phase: f32, duty: f32, second: f32, dt: f32) -> f32
+    ensures { λ r. ⌜ r ≡ pulseOf phase duty second dt ⌝ }
+{
+    level(phase, duty) + osc::poly_blep(phase, dt) - osc::poly_blep(second, dt)
+}
+
+// x less its whole part. Below 2, where a phase and less than a period more lie, that part is 0 or 1
+// by comparisons alone.
+fn fract(x: f32) -> f32
+    ensures { λ r. ⌜ r ≡ fractOf binary32 x ⌝ }
+{
+    if x < 1.0 {
+        if x > 0.0 {
+            return x - 0.0;
+        }
+    } else if x < 2.0 {
+        return x - 1.0;
+    }
+    float::fract_f32(x)
+}
+
+fn square_at(
+    pitch: Pitch,
+    lane: &[f32],
+    duty: Pitch,
+    duties: &[f32],
+    srf: f32,
+    i: usize,
+    phase: f32,
+) -> PhaseOut
+    requires { ⌜ reaches pitch (length (now lane)) (i + 1) ⌝ }
+    requires { ⌜ reaches duty (length (now duties)) (i + 1) ⌝ }
+    ensures { λ r. ⌜ r ≡ squareAt (pitchAt pitch (now (lane .entry))) (pitchAt duty (now (duties .entry))) srf i phase ⌝ }
+{
+    let dt = osc::phase_step(pitch.at(lane, i), srf);
+    let width = float::clamp_f32(duty.at(duties, i), 0.01, 0.99);
+    PhaseOut {
+        sample: pulse(phase, width, fract(phase - width + 1.0), dt),
+        state: osc::wrap(phase + dt),
+    }
+}
+
+// The duty is read at every frame.
+pub fn square(pitch: Pitch, lane: &[f32], duty: Pitch, duties: &[f32], srf: f32, out: &mut [f32])
+    requires { ⌜ reaches pitch (length (now lane)) (length (now out)) ⌝ }
+    requires { ⌜ reaches duty (length (now duties)) (length (now out)) ⌝ }
+    ensures { λ _. ⌜ now (out .exit) ≡ squareFrames (pitchAt pitch (now (lane .entry))) (pitchAt duty (now (duties .entry))) srf (length (now (out .entry))) ⌝ }
+{
+    let mut s = 0.0f32;
+    let mut i = 0usize;
+    while i < out.len() {
+        let r = square_at(pitch, lane, duty, duties, srf, i, s);
+        out[i] = r.sample;
+        s = r.state;
+        i += 1;
+    }
+}
+
+pub struct TriangleState {
+    pub phase: f32,
+    pub tri: f32,
+}
+
+pub struct TriangleOut {
+    pub sample: f32,
+    pub state: TriangleState,
+}
+
+fn triangle_at(pitch: Pitch, lane: &[f32], srf: f32, i: usize, s: TriangleState) -> TriangleOut
+    requires { ⌜ reaches pitch (length (now lane)) (i + 1) ⌝ }
+    ensures { λ r. ⌜ r ≡ triangleAt (pitchAt pitch (now (lane .entry))) srf i s ⌝ }
+{
+    let dt = osc::phase_step(pitch.at(lane, i), srf);
+    let sq = pulse(s.phase, 0.5, fract(s.phase + 0.5), dt);
+    let tri = s.tri * 0.9995 + 4.0 * dt * sq;
+    TriangleOut {
+        sample: tri,
+        state: TriangleState {
+            phase: osc::wrap(s.phase + dt),
+            tri,
+        },
+    }
+}
+
+// A square wave summed up, with a leak that keeps the sum about zero.
+pub fn triangle(pitch: Pitch, lane: &[f32], srf: f32, out: &mut [f32])
+    requires { ⌜ reaches pitch (length (now lane)) (length (now out)) ⌝ }
+    ensures { λ _. ⌜ now (out .exit) ≡ triangleFrames (pitchAt pitch (now (lane .entry))) srf (length (now (out .entry))) ⌝ }
+{
+    let mut s = TriangleState {
+        phase: 0.0,
+        tri: 0.0,
+    };
+    let mut i = 0usize;
+    while i < out.len() {
+        let r = triangle_at(pitch, lane, srf, i, s);
+        out[i] = r.sample;
+        s = r.state;
+        i += 1;
+    }
+}
