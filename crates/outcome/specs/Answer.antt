@@ -3,7 +3,7 @@ use Prim.Native.Nat.{ℕ, zero, suc}
 use mathlib.Core.List.{List}
 use lib.Ieee.{Float}
 use Rattle.outcome.specs.declared.answer.Refusal.{Refusal}
-use Rattle.outcome.specs.declared.answer.Refusal.the-variants.{Rate, Frames, Tempo, StepsPerBeat, Groove, Knobs, Words, Kind, Place, Size, Lane, Reach, NoPitch, Lengths, NoteBuffer, StringBuffer, Draws}
+use Rattle.outcome.specs.declared.answer.Refusal.the-variants.{Rate, Frames, Tempo, StepsPerBeat, Groove, Knobs, Words, Kind, Steps, Size, Lane, Reach, NoPitch, Lengths, NoteBuffer, StringBuffer, Draws}
 use Rattle.outcome.specs.declared.answer.Outcome.{Outcome}
 use Rattle.outcome.specs.declared.answer.Outcome.the-variants.{Played, Refused}
 use Rattle.outcome.specs.declared.answer.Verdict.{Verdict}
@@ -19,7 +19,7 @@ numberOf Groove = 5
 numberOf Knobs = 6
 numberOf Words = 7
 numberOf Kind = 8
-numberOf Place = 9
+numberOf Steps = 9
 numberOf Size = 10
 numberOf Lane = 11
 numberOf Reach = 12
