@@ -7,3 +7,4 @@ pub mod Seek
 pub mod Parts
 pub mod Fold
 pub mod Sweep
+pub mod Listed

@@ -1,3 +1,4 @@
 pub mod Run
 pub mod Update
 pub mod First
+pub mod Listed

@@ -1,5 +1,5 @@
 -- What a call comes to, by 01's numbers, and what it leaves.
-use Prim.Native.Nat.{ℕ, zero, suc}
+use Prim.Native.Nat.{ℕ}
 use mathlib.Core.List.{List}
 use lib.Ieee.{Float}
 use Rattle.outcome.specs.declared.answer.Refusal.{Refusal}
@@ -29,20 +29,15 @@ numberOf NoteBuffer = 20
 numberOf StringBuffer = 21
 numberOf Draws = 22
 
--- 0: nothing is refused
-abbrev pub verdictNumber : Verdict → ℕ
-verdictNumber Fine = 0
-verdictNumber (Refuse r) = numberOf r
-
 -- a refusal's number, or an accepted call's draws and frames
 pub data Result : Type 0 where
   refused : ℕ → Result
   accepted : ℕ → List Float → Result
 
--- r, unless a number that is not 0 refuses it
-abbrev pub unless : ℕ → Result → Result
-unless zero r = r
-unless (suc number) r = refused (suc number)
+-- r, unless it is refused
+abbrev pub unless : Verdict → Result → Result
+unless Fine r = r
+unless (Refuse why) r = refused (numberOf why)
 
 -- an answer with the frames that were left
 abbrev pub seen : Outcome → List Float → Result

@@ -1,32 +1,40 @@
--- The first of several refusals that applies. A refusal is a test and its number; 0 is the number of none.
-use Prim.Native.Nat.{ℕ, zero, suc}
+-- Refusals in the order in which they are tested.
+use Prim.Native.Nat.{ℕ}
 use mathlib.Core.List.{List, [], _∷_}
-use mathlib.Core.Bool.{Bool, true, false, cond}
+use mathlib.Core.Bool.{Bool, true, cond}
 use lib.Dec.{ltb}
+use Rattle.outcome.specs.declared.answer.Refusal.{Refusal}
+use Rattle.outcome.specs.declared.answer.Verdict.{Verdict}
+use Rattle.outcome.specs.declared.answer.Verdict.the-variants.{Fine, Refuse}
 
+-- a test, and what refuses where it holds; the refusal's number is `numberOf`'s
 pub record Test : Type 0 where
   pub holds : Bool
-  pub number : ℕ
+  pub refusal : Refusal
 
 infix 50 _⇒_
--- where the test holds, this number refuses
-abbrev pub _⇒_ : Bool → ℕ → Test
-test ⇒ number = record { holds = test; number = number }
+abbrev pub _⇒_ : Bool → Refusal → Test
+test ⇒ refusal = record { holds = test; refusal = refusal }
 
--- "the first refusal that applies gives the number"
-unfoldable pub firstOf : List Test → ℕ
-firstOf [] = 0
-firstOf (t ∷ ts) = cond (t .holds) (t .number) (firstOf ts)
+-- "the first refusal that applies"
+unfoldable pub firstOf : List Test → Verdict
+firstOf [] = Fine
+firstOf (t ∷ ts) = cond (t .holds) (Refuse (t .refusal)) (firstOf ts)
 
--- a refusal found before, or else the next one
-abbrev pub orElse : ℕ → ℕ → ℕ
-orElse zero next = next
-orElse (suc number) next = suc number
+-- what was found before, or else what comes next
+abbrev pub orElse : Verdict → Verdict → Verdict
+orElse Fine next = next
+orElse (Refuse r) next = Refuse r
 
--- what is found test after test, z having been found before: the same, as a chain of `or_else` finds it
-abbrev pub firstAfter : ℕ → List Test → ℕ
-firstAfter z [] = z
-firstAfter z (t ∷ ts) = firstAfter (orElse z (cond (t .holds) (t .number) 0)) ts
+-- the first of several verdicts that refuses
+unfoldable pub firstRefusal : List Verdict → Verdict
+firstRefusal [] = Fine
+firstRefusal (v ∷ vs) = orElse v (firstRefusal vs)
+
+-- what a chain of `or_else` finds, test after test, v having been found before
+abbrev pub firstAfter : Verdict → List Test → Verdict
+firstAfter v [] = v
+firstAfter v (t ∷ ts) = firstAfter (orElse v (cond (t .holds) (Refuse (t .refusal)) Fine)) ts
 
 -- whether x lies outside low to high
 abbrev pub outside : ℕ → ℕ → ℕ → Bool

@@ -5,4 +5,6 @@ mod verdict; // verdict.rt: the first refusal that applies
 pub use answer::Outcome;
 pub use answer::Refusal;
 pub use answer::Verdict;
+pub use verdict::domain_verdict;
 pub use verdict::or_else;
+pub use verdict::outside;

@@ -1,5 +1,4 @@
 -- `outcome::verdict::or_else` meets its contract. Assumes nothing.
-use Rattle.outcome.proofs.Refusing.{kept}
 use borrow.Author.Needs.{needs}
 use Rattle.outcome.proofs.verdict.or_else.Statement.{statement}
 use Rattle.outcome.proofs.verdict.or_else.Tie as tie
@@ -11,13 +10,13 @@ enum-told : tie.Need-enum-told
 enum-told c = search needs
 
 returns : tie.Need-returns
-returns c = rw (c .before .found .given .1) (kept (c .before .found .given .0 .0) _)
+returns c = rw (c .before .found .given .1)
 
 returns-2 : tie.Need-returns-2
-returns-2 c = search needs
+returns-2 c = rw (c .before .enum-told .given .1, c .if1 .taken)
 
 returns-3 : tie.Need-returns-3
-returns-3 c = search needs
+returns-3 c = rw (c .before .enum-told .given .1, c .if1 .left)
 
 pub or-else-spec : {M : Type 1} → statement M
 or-else-spec = tie.close (tie.spec enum-known-found enum-told returns returns-2 returns-3)
