@@ -1,8 +1,8 @@
 -- Use where refusals are tested one after the other: `turned` is what a chain of `or_else` finds, `none-holds` what is known where none applies, `Probed` the invariant of a
 -- loop that leaves at the first that applies. Assumes nothing.
 use Prim.Native.Nat.{ℕ, zero, suc, _+_, _-_, _≤_, _<_}
-use mathlib.Core.Path.{_≡_, refl, sym, _∙_}
-use mathlib.Core.List.{List, [], _∷_}
+use mathlib.Core.Path.{_≡_, refl, sym, ap, _∙_}
+use mathlib.Core.List.{List, [], _∷_, _++_}
 use mathlib.Core.Bool.{Bool, true, false, cond}
 use native.Mathlib.Omega.{arith}
 use native.Mathlib.Numerals.{add-one}
@@ -67,6 +67,23 @@ pub turned : (v : Verdict) (ts : List Test) → firstAfter v ts ≡ orElse v (fi
 unfolding firstOf
 turned v [] = or-none v
 turned v (t ∷ ts) = turned (orElse v (cond (t .holds) (Refuse (t .refusal)) Fine)) ts ∙ or-or v (t .holds) (t .refusal) (firstOf ts)
+
+-- ---- tests of which a chain takes the first ones
+cond-or : (b : Bool) (r : Refusal) (v next : Verdict) → cond b (Refuse r) (orElse v next) ≡ orElse (cond b (Refuse r) v) next
+cond-or true r v next = refl
+cond-or false r v next = refl
+
+first-append : (ts us : List Test) → firstOf (ts ++ us) ≡ orElse (firstOf ts) (firstOf us)
+unfolding firstOf
+first-append [] us = refl
+first-append (t ∷ ts) us = ap (cond (t .holds) (Refuse (t .refusal))) (first-append ts us) ∙ cond-or (t .holds) (t .refusal) (firstOf ts) (firstOf us)
+
+module _ (ts us : List Test) where
+  pub chain-refused : {r : Refusal} → Refuse r ≡ firstAfter Fine ts → Refuse r ≡ firstOf (ts ++ us)
+  chain-refused e = ap (λ (v : Verdict). orElse v (firstOf us)) (e ∙ turned Fine ts) ∙ sym (first-append ts us)
+
+  pub chain-fine : {v : Verdict} → Fine ≡ firstAfter Fine ts → v ≡ firstOf us → v ≡ firstOf (ts ++ us)
+  chain-fine e f = f ∙ ap (λ (v : Verdict). orElse v (firstOf us)) (e ∙ turned Fine ts) ∙ sym (first-append ts us)
 
 -- ---- verdict after verdict: f k is that of item k, and there are n of them
 module _ (f : ℕ → Verdict) where

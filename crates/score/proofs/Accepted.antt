@@ -18,7 +18,7 @@ use Rattle.dsl.proofs.Magnitude.{sized-numeric}
 use Rattle.dsl.proofs.Reach.{reaches-less}
 use Rattle.dsl.proofs.Cases.{NoNote}
 use Rattle.groove.specs.Number.{c1000}
-use Rattle.groove.proofs.Room.{sounded-le}
+use Rattle.groove.proofs.Room.{sounded-le, length-least}
 use Rattle.outcome.specs.First.{firstOf}
 use Rattle.outcome.specs.declared.answer.Verdict.the-variants.{Fine, Refuse}
 use Rattle.outcome.specs.declared.answer.Refusal.the-variants.{Kind}
@@ -119,3 +119,17 @@ accepted-score s e =
       fit = fit s (both .0);
       clean = each-fine (λ k. noteRefusal s (noteIn s k)) (noteCount s) (rw (from-map (noteRefusal s) (noteIn s) (noteCount s) 0) at (both .1));
     }
+
+-- ---- note k of an accepted score
+module _ (s : Score) (ok : refusal s ≡ Fine) (k : ℕ) (lt : k < noteCount s) (m : SeqNote) (is : noteIn s k ≡ Note m) where
+  pub fine-in : NoteFine s m
+  fine-in = clean-note s (accepted-score s ok .clean) k lt m is
+
+  -- what working out its place asks
+  pub place-asks : Frames (s .n) × numeric (m .pitch)
+  place-asks = (accepted-score s ok .fit .frames, fine-in .number)
+
+  -- its first pitch can be read
+  pub first-reached : reaches (m .pitch) (length (s .lane)) 1
+  unfolding placeOf
+  first-reached = reaches-less (m .pitch) (length (s .lane)) _ 1 (fine-in .reached) (length-least _ _ _)

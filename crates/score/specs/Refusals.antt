@@ -53,15 +53,14 @@ listTests s = (not (eqb (length (s .notes) % 5) 0) ⇒ Words) ∷ (not (allSized
 abbrev pub callTests : Score → List Test
 callTests s = numberTests (s .seq .timing) (s .n) ++ (voiceTests (s .seq) ++ (lentTests s ++ listTests s))
 
--- "9 step or len; 10 gain or constant pitch not sized; 12 offset + length (module 4's, for skipped notes too) passes the lane's end"
+-- "9 step or len; 10 gain or constant pitch not sized"
+abbrev pub valueTests : SeqNote → List Test
+valueTests m =
+    (ltb 1048575 (m .step) ⇒ Steps) ∷ (ltb 1048575 (m .len) ⇒ Steps) ∷ (not (sizedOf (m .gain)) ⇒ Size) ∷ (not (pitchSized (m .pitch)) ⇒ Size) ∷ []
+
+-- "12 offset + length (module 4's, for skipped notes too) passes the lane's end"
 abbrev pub noteTests : Score → SeqNote → List Test
-noteTests s m =
-    (ltb 1048575 (m .step) ⇒ Steps)
-    ∷ (ltb 1048575 (m .len) ⇒ Steps)
-    ∷ (not (sizedOf (m .gain)) ⇒ Size)
-    ∷ (not (pitchSized (m .pitch)) ⇒ Size)
-    ∷ (passes (m .pitch) (length (s .lane)) (place s m .len) ⇒ Reach)
-    ∷ []
+noteTests s m = valueTests m ++ (passes (m .pitch) (length (s .lane)) (place s m .len) ⇒ Reach) ∷ []
 
 -- "8 kind above 1"
 unfoldable pub noteRefusal : Score → Decoded → Verdict

@@ -1,2 +1,1 @@
-pub mod Order
-mod Ends
+mod Verdicts

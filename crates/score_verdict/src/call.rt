@@ -1,63 +1,37 @@
 // All refusals of a score call but 22, in their order.
 ghost use mathlib.Core.Path.{_≡_};
-ghost use Rattle.outcome.specs.Answer.{verdictNumber};
+ghost use mathlib.Core.List.{_++_};
+ghost use Rattle.outcome.specs.First.{firstAfter};
 ghost use Rattle.score.specs.Score.{scoreOf};
-ghost use Rattle.score.specs.Refusals.{lentRefusal, listsRefusal, refusal};
+ghost use Rattle.score.specs.Refusals.{voiceTests, lentTests, listTests, refusal};
 use crate::notes::notes_verdict;
 use crate::numbers::numbers_verdict;
-use crate::numbers::voice_verdict;
 use outcome::Refusal;
 use outcome::Verdict;
+use outcome::or_else;
+use score::Lent;
 use score::Seq;
 
-// 20 and 21.
-fn lent_verdict(n: usize, room: usize, string: usize) -> Verdict
-    ensures { λ r. ⌜ verdictNumber r ≡ lentRefusal n room string ⌝ }
+// 6, 20, 21, 7 and 11, after what was found before.
+fn lists_verdict(found: Verdict, seq: Seq, notes: &[u32], lane: &[f32], lent: Lent) -> Verdict
+    ensures { λ r. ⌜ r ≡ firstAfter found (voiceTests seq ++ (lentTests (scoreOf seq (now (notes .entry)) (now (lane .entry)) lent) ++ listTests (scoreOf seq (now (notes .entry)) (now (lane .entry)) lent))) ⌝ }
 {
-    if room < n {
-        return Verdict::Refuse(Refusal::NoteBuffer);
-    }
-    if string < 9600 {
-        return Verdict::Refuse(Refusal::StringBuffer);
-    }
-    Verdict::Fine
+    let found = or_else(found, !dsl::knobs_sized(seq.voice), Refusal::Knobs);
+    let found = or_else(found, !dsl::is_sized(seq.duty), Refusal::Knobs);
+    let found = or_else(found, !dsl::env_sized(seq.env), Refusal::Knobs);
+    let found = or_else(found, lent.room < lent.n, Refusal::NoteBuffer);
+    let found = or_else(found, lent.string < 9600, Refusal::StringBuffer);
+    let found = or_else(found, notes.len() % 5 != 0, Refusal::Words);
+    or_else(found, !dsl::all_sized(lane), Refusal::Lane)
 }
 
-// 7 and 11.
-fn lists_verdict(notes: &[u32], lane: &[f32]) -> Verdict
-    ensures { λ r. ⌜ verdictNumber r ≡ listsRefusal (now (notes .entry)) (now (lane .entry)) ⌝ }
+pub fn score_verdict(seq: Seq, notes: &[u32], lane: &[f32], lent: Lent) -> Verdict
+    ensures { λ r. ⌜ r ≡ refusal (scoreOf seq (now (notes .entry)) (now (lane .entry)) lent) ⌝ }
 {
-    if notes.len() % 5 != 0 {
-        return Verdict::Refuse(Refusal::Words);
-    }
-    if !dsl::all_sized(lane) {
-        return Verdict::Refuse(Refusal::Lane);
-    }
-    Verdict::Fine
-}
-
-// `room` is the note buffer's length, `string` the string buffer's, n the output's.
-pub fn score_verdict(
-    seq: Seq,
-    notes: &[u32],
-    lane: &[f32],
-    n: usize,
-    room: usize,
-    string: usize,
-) -> Verdict
-    ensures { λ r. ⌜ verdictNumber r ≡ refusal (scoreOf seq (now (notes .entry)) (now (lane .entry)) n) room string ⌝ }
-{
-    if let Verdict::Refuse(r) = numbers_verdict(seq, n) {
+    let found = numbers_verdict(seq.timing, lent.n);
+    let found = lists_verdict(found, seq, notes, lane, lent);
+    if let Verdict::Refuse(r) = found {
         return Verdict::Refuse(r);
     }
-    if let Verdict::Refuse(r) = voice_verdict(seq) {
-        return Verdict::Refuse(r);
-    }
-    if let Verdict::Refuse(r) = lent_verdict(n, room, string) {
-        return Verdict::Refuse(r);
-    }
-    if let Verdict::Refuse(r) = lists_verdict(notes, lane) {
-        return Verdict::Refuse(r);
-    }
-    notes_verdict(seq, notes, lane, n)
+    notes_verdict(seq, notes, lane, lent)
 }

@@ -1,10 +1,13 @@
-// The refusals of a score's numbers and of its voice.
+// The refusals of a score's numbers.
 ghost use mathlib.Core.Path.{_≡_};
-ghost use Rattle.outcome.specs.Answer.{verdictNumber};
-ghost use Rattle.score.specs.Refusals.{withinOf, numbersRefusal, voiceRefusal};
+ghost use Rattle.outcome.specs.First.{firstAfter};
+ghost use Rattle.outcome.specs.declared.answer.Verdict.the-variants.{Fine};
+ghost use Rattle.score.specs.Refusals.{withinOf, numberTests};
 use outcome::Refusal;
 use outcome::Verdict;
-use score::Seq;
+use outcome::or_else;
+use outcome::outside;
+use score::Timing;
 
 // Whether x is from low to high; a NaN is not.
 fn within(x: f32, low: f32, high: f32) -> bool
@@ -17,49 +20,16 @@ fn within(x: f32, low: f32, high: f32) -> bool
 }
 
 // 1, 2, 3, 4 and 5, for an output of n frames.
-pub fn numbers_verdict(seq: Seq, n: usize) -> Verdict
-    ensures { λ r. ⌜ verdictNumber r ≡ numbersRefusal seq n ⌝ }
+pub(crate) fn numbers_verdict(timing: Timing, n: usize) -> Verdict
+    ensures { λ r. ⌜ r ≡ firstAfter Fine (numberTests timing n) ⌝ }
 {
-    if seq.rate < 8000 {
-        return Verdict::Refuse(Refusal::Rate);
-    }
-    if seq.rate > 192000 {
-        return Verdict::Refuse(Refusal::Rate);
-    }
-    if n > 16777216 {
-        return Verdict::Refuse(Refusal::Frames);
-    }
-    if !within(seq.tempo, 1.0, 1000.0) {
-        return Verdict::Refuse(Refusal::Tempo);
-    }
-    if seq.steps_per_beat < 1 {
-        return Verdict::Refuse(Refusal::StepsPerBeat);
-    }
-    if seq.steps_per_beat > 64 {
-        return Verdict::Refuse(Refusal::StepsPerBeat);
-    }
-    if !within(seq.swing, 0.0, 1.0) {
-        return Verdict::Refuse(Refusal::Groove);
-    }
-    if !within(seq.humanize, 0.0, 1.0) {
-        return Verdict::Refuse(Refusal::Groove);
-    }
-    Verdict::Fine
-}
-
-// 6.
-pub fn voice_verdict(seq: Seq) -> Verdict
-    ensures { λ r. ⌜ verdictNumber r ≡ voiceRefusal seq ⌝ }
-{
-    let voice = seq.voice;
-    if !dsl::knobs_sized(voice.fm, voice.pluck, voice.piano, voice.bass) {
-        return Verdict::Refuse(Refusal::Knobs);
-    }
-    if !dsl::is_sized(seq.duty) {
-        return Verdict::Refuse(Refusal::Knobs);
-    }
-    if !dsl::env_sized(seq.env) {
-        return Verdict::Refuse(Refusal::Knobs);
-    }
-    Verdict::Fine
+    let found = outcome::domain_verdict(timing.rate, n);
+    let found = or_else(found, !within(timing.tempo, 1.0, 1000.0), Refusal::Tempo);
+    let found = or_else(
+        found,
+        outside(timing.steps_per_beat, 1, 64),
+        Refusal::StepsPerBeat,
+    );
+    let found = or_else(found, !within(timing.swing, 0.0, 1.0), Refusal::Groove);
+    or_else(found, !within(timing.humanize, 0.0, 1.0), Refusal::Groove)
 }

@@ -1,18 +1,18 @@
 -- `score_draws::note_draws` meets its contract. Assumes nothing.
-use mathlib.Core.Path.{refl, sym, _∙_}
-use native.Mathlib.Omega.{arith}
+use mathlib.Core.Path.{sym, _∙_}
 use borrow.Author.Tests.{lt-leb}
-use Rattle.dsl.proofs.Reach.{reaches-less}
-use Rattle.groove.proofs.Room.{length-least}
-use Rattle.score.specs.Score.{scoreOf, noteDraws}
-use Rattle.score.proofs.Accepted.{clean-note}
+use Rattle.score.specs.Score.{Score, scoreOf, noteDraws}
+use Rattle.score.proofs.Accepted.{accepted-score, place-asks, first-reached}
 use Rattle.score.proofs.Notes.{skipped-draws, sounded-draws}
 use borrow.Author.Needs.{needs}
 use Rattle.score_draws.proofs.note_draws.Statement.{statement}
 use Rattle.score_draws.proofs.note_draws.Tie as tie
 
+abbrev score-in : tie.Start → Score
+score-in c = scoreOf (c .args .seq) (c .args .notes .now) (c .args .lane .now) (c .args .lent)
+
 note-at-requires : tie.Need-note-at-requires
-note-at-requires c κs = omega arith
+note-at-requires c κs = search needs
 
 enum-known-note : tie.Need-enum-known-note
 enum-known-note c = search needs
@@ -22,36 +22,42 @@ enum-told c = search needs
 
 returns : tie.Need-returns
 unfolding noteDraws
-returns c = rw (sym (c .before .before .note-at .ensures) ∙ c .enum-told .given .1) refl
+returns c = rw (sym (c .before .before .note-at .ensures) ∙ c .enum-told .given .1)
 
 place-note-requires : tie.Need-place-note-requires
 place-note-requires c κs =
-    let a = c .before .before .before .before .before .before .args in
-    let s = scoreOf (a .seq) (a .notes .now) (a .lane .now) (a .n) in
-    let fine = clean-note s (c .before .before .before .before .before .before .pre .1 .1 .0) (a .k) (c .before .before .before .before .before .before .pre .1 .1 .1) _ (sym (c .before .before .before .note-at .ensures) ∙ c .before .note .given .1) in
-    (c .before .before .before .before .before .before .pre .1 .0, fine .number)
+    let at = c .before .before .before .before .before .before .before in
+    place-asks (score-in at) (at .pre .0) _ (at .pre .1) _ (sym (c .before .before .before .before .note-at .ensures) ∙ c .before .before .note .given .1)
 
 returns-2 : tie.Need-returns-2
 returns-2 c =
-    let a = c .before .before .before .before .before .before .before .before .before .args in
-    let s = scoreOf (a .seq) (a .notes .now) (a .lane .now) (a .n) in
-    rw (sym (c .before .before .before .before .before .before .note-at .ensures) ∙ c .before .before .before .before .note .given .1) (skipped-draws s (c .before .before .before .before .note .given .0 .0) (rw (c .before .before .place-note .ensures) at (c .if1 .taken)))
+    let b6 = c .before .before .before .before .before .before in
+    let b8 = c .before .before .before .before .before .before .before .before in
+    let b11 = c .before .before .before .before .before .before .before .before .before .before .before in
+    let is = sym (b8 .note-at .ensures) ∙ b6 .note .given .1 in
+    rw is (skipped-draws (score-in (b11)) _ (rw (c .before .before .before .place-note .ensures) at (c .if1 .taken)))
 
 at-requires : tie.Need-at-requires
 at-requires c κs =
-    let a = c .before .before .before .before .before .before .before .before .before .before .args in
-    let s = scoreOf (a .seq) (a .notes .now) (a .lane .now) (a .n) in
-    let fine = clean-note s (c .before .before .before .before .before .before .before .before .before .before .pre .1 .1 .0) (a .k) (c .before .before .before .before .before .before .before .before .before .before .pre .1 .1 .1) _ (sym (c .before .before .before .before .before .before .before .note-at .ensures) ∙ c .before .before .before .before .before .note .given .1) in
-    reaches-less (c .before .before .before .before .before .note .given .0 .0 .pitch) _ _ _ (fine .reached) (length-least _ _ _)
+    let b7 = c .before .before .before .before .before .before .before in
+    let b9 = c .before .before .before .before .before .before .before .before .before in
+    let b12 = c .before .before .before .before .before .before .before .before .before .before .before .before in
+    let at = b12 in
+    first-reached (score-in at) (at .pre .0) _ (at .pre .1) _ (sym (b9 .note-at .ensures) ∙ b7 .note .given .1)
 
 draw-count-requires : tie.Need-draw-count-requires
-draw-count-requires c κs = c .before .before .before .before .before .before .before .before .before .before .before .pre .0
+draw-count-requires c κs = accepted-score _ (c .before .before .before .before .before .before .before .before .before .before .before .before .before .pre .0) .fit .rate
 
 returns-3 : tie.Need-returns-3
 returns-3 c =
-    let a = c .before .before .before .before .before .before .before .before .before .before .before .before .args in
-    let s = scoreOf (a .seq) (a .notes .now) (a .lane .now) (a .n) in
-    c .draw-count .ensures ∙ rw (c .before .at .ensures, c .before .before .before .before .before .place-note .ensures, sym (c .before .before .before .before .before .before .before .before .before .note-at .ensures) ∙ c .before .before .before .before .before .before .before .note .given .1) (sounded-draws s (c .before .before .before .before .before .before .before .note .given .0 .0) (lt-leb _ _ (rw (c .before .before .before .before .before .place-note .ensures) at (c .before .before .before .if1 .left))))
+    let b6 = c .before .before .before .before .before .before in
+    let b9 = c .before .before .before .before .before .before .before .before .before in
+    let b11 = c .before .before .before .before .before .before .before .before .before .before .before in
+    let b14 = c .before .before .before .before .before .before .before .before .before .before .before .before .before .before in
+    let is = sym (b11 .note-at .ensures) ∙ b9 .note .given .1 in
+    let heard = lt-leb _ _ (rw (b6 .place-note .ensures) at (c .before .before .before .if1 .left)) in
+    c .draw-count .ensures ∙ rw (c .before .at .ensures, b6 .place-note .ensures,
+        is) (sounded-draws (score-in (b14)) _ heard)
 
 pub note-draws-spec : {M : Type 1} → statement M
 note-draws-spec =

@@ -10,16 +10,16 @@ use Rattle.score_draws.proofs.score_draws.Statement.{statement}
 use Rattle.score_draws.proofs.score_draws.Tie as tie
 
 abbrev Inv-loop : tie.InvT-loop
-Inv-loop seq notes lane n left count total₀ k₀ total k = (Added (scoreOf seq notes lane n) left k total) × (count ≡ length notes / 5)
+Inv-loop seq notes lane lent left count total₀ k₀ total k = (Added (scoreOf seq notes lane lent) left k total) × (count ≡ length notes / 5)
 
 abbrev μ-loop : tie.MeasureT-loop
-μ-loop seq notes lane n left count total₀ k₀ total k = count - k
+μ-loop seq notes lane lent left count total₀ k₀ total k = count - k
 
 loop-holds : tie.Need-loop-holds Inv-loop μ-loop
 loop-holds c = (added-none, refl)
 
 note-draws-requires : tie.Need-note-draws-requires Inv-loop μ-loop
-note-draws-requires c κs = (c .before .before .before .before .pre .0, (c .before .before .before .before .pre .1 .0, (c .before .before .before .before .pre .1 .1, omega arith)))
+note-draws-requires c κs = (c .before .before .before .before .pre, omega arith)
 
 sub-if1 : tie.Need-sub-if1 Inv-loop μ-loop
 sub-if1 c = c .before .before .loop .inv .0 .fits

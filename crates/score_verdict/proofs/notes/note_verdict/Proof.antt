@@ -1,11 +1,14 @@
 -- `score_verdict::notes::note_verdict` meets its contract. Assumes nothing.
-use mathlib.Core.Path.{refl}
-use borrow.Author.Tests.{lt-ltb, le-ltb}
-use Rattle.laws.proofs.If.{if-true, if-false}
+use mathlib.Core.Path.{sym, _∙_}
+use Rattle.score.specs.Score.{Score, scoreOf}
 use Rattle.score.specs.Refusals.{noteRefusal}
+use Rattle.score_verdict.proofs.Verdicts.{values-refuse, values-number, reach-decides}
 use borrow.Author.Needs.{needs}
 use Rattle.score_verdict.proofs.notes.note_verdict.Statement.{statement}
 use Rattle.score_verdict.proofs.notes.note_verdict.Tie as tie
+
+abbrev score-in : tie.Start → Score
+score-in c = scoreOf (c .args .seq) (c .args .notes .now) (c .args .lane .now) (c .args .lent)
 
 enum-known-note : tie.Need-enum-known-note
 enum-known-note c = search needs
@@ -15,46 +18,43 @@ enum-told c = search needs
 
 returns : tie.Need-returns
 unfolding noteRefusal
-returns c = rw (c .enum-told .given .1) refl
+returns c = rw (c .enum-told .given .1)
+
+values-verdict-requires : tie.Need-values-verdict-requires
+values-verdict-requires c κs = search needs
+
+enum-known-found : tie.Need-enum-known-found
+enum-known-found c = search needs
 
 returns-2 : tie.Need-returns-2
-unfolding noteRefusal
-returns-2 c = rw (c .before .before .before .note .given .1) (if-true _ (lt-ltb _ _ (c .if1 .taken)) refl)
+returns-2 c =
+    let n = c .before .before .before .before .before .note .given in
+    values-refuse _ _ _ (n .1) (sym (c .before .found .given .1) ∙ c .before .before .before .values-verdict .ensures)
+
+enum-told-2 : tie.Need-enum-told-2
+enum-told-2 c = search needs
+
+place-note-requires : tie.Need-place-note-requires
+place-note-requires c κs =
+    let n = c .before .before .before .before .note .given in (
+      c .before .before .before .before .before .before .before .before .pre,
+      values-number (score-in (c .before .before .before .before .before .before .before .before)) _ _ (n .1) (sym (c .enum-told2 .given .1) ∙ c .before .before .values-verdict .ensures),
+    )
+
+passes-requires : tie.Need-passes-requires
+passes-requires c κs = search needs
+
+or-else-requires : tie.Need-or-else-requires
+or-else-requires c κs = search needs
 
 returns-3 : tie.Need-returns-3
-unfolding noteRefusal
-returns-3 c = rw (c .before .before .before .before .before .note .given .1) (if-false _ (le-ltb _ _ (c .before .before .if1 .left)) (if-true _ (lt-ltb _ _ (c .if2 .taken)) refl))
-
-is-sized-requires : tie.Need-is-sized-requires
-is-sized-requires c κs = search needs
-
-returns-4 : tie.Need-returns-4
-unfolding noteRefusal
-returns-4 c = rw (c .before .before .before .before .before .before .before .note .given .1) (if-false _ (le-ltb _ _ (c .before .before .before .before .if1 .left)) (if-false _ (le-ltb _ _ (c .before .before .if2 .left)) (if-true _ (rw (c .before .is-sized .ensures) at (c .if3 .taken)) refl)))
-
-is-sized-requires-2 : tie.Need-is-sized-requires-2
-is-sized-requires-2 c κs = search needs
-
-returns-5 : tie.Need-returns-5
-unfolding noteRefusal
-returns-5 c = rw (c .before .before .before .before .before .before .before .before .before .note .given .1) (if-false _ (le-ltb _ _ (c .before .before .before .before .before .before .if1 .left)) (if-false _ (le-ltb _ _ (c .before .before .before .before .if2 .left)) (if-false _ (rw (c .before .before .before .is-sized .ensures) at (c .before .before .if3 .left)) (if-true _ (rw (c .before .is-sized2 .ensures) at (c .if4 .taken)) refl))))
-
-step-dur-requires : tie.Need-step-dur-requires
-step-dur-requires c κs = search needs
-
-note-len-requires : tie.Need-note-len-requires
-note-len-requires c κs = search needs
-
-passes-end-requires : tie.Need-passes-end-requires
-passes-end-requires c κs = search needs
-
-returns-6 : tie.Need-returns-6
-unfolding noteRefusal
-returns-6 c = rw (c .before .before .before .before .before .before .before .before .before .before .before .before .before .note .given .1) (if-false _ (le-ltb _ _ (c .before .before .before .before .before .before .before .before .before .before .if1 .left)) (if-false _ (le-ltb _ _ (c .before .before .before .before .before .before .before .before .if2 .left)) (if-false _ (rw (c .before .before .before .before .before .before .before .is-sized .ensures) at (c .before .before .before .before .before .before .if3 .left)) (if-false _ (rw (c .before .before .before .before .before .is-sized2 .ensures) at (c .before .before .before .before .if4 .left)) (if-true _ (rw (c .before .passes-end .ensures, c .before .before .note-len .ensures, c .before .before .before .step-dur .ensures) at (c .if5 .taken)) refl)))))
-
-returns-7 : tie.Need-returns-7
-unfolding noteRefusal
-returns-7 c = rw (c .before .before .before .before .before .before .before .before .before .before .before .before .before .note .given .1) (if-false _ (le-ltb _ _ (c .before .before .before .before .before .before .before .before .before .before .if1 .left)) (if-false _ (le-ltb _ _ (c .before .before .before .before .before .before .before .before .if2 .left)) (if-false _ (rw (c .before .before .before .before .before .before .before .is-sized .ensures) at (c .before .before .before .before .before .before .if3 .left)) (if-false _ (rw (c .before .before .before .before .before .is-sized2 .ensures) at (c .before .before .before .before .if4 .left)) (if-false _ (rw (c .before .passes-end .ensures, c .before .before .note-len .ensures, c .before .before .before .step-dur .ensures) at (c .if5 .left)) refl)))))
+returns-3 c =
+    let n = c .before .before .before .before .before .before .before .note .given in
+    let fine = sym (c .before .before .before .enum-told2 .given .1) ∙ c .before .before .before .before .before .values-verdict .ensures in
+    reach-decides _ _ _ (n .1) fine (c .or-else .ensures ∙ rw (
+      c .before .passes .ensures,
+      c .before .before .place-note .ensures,
+    ))
 
 pub note-verdict-spec : {M : Type 1} → statement M
 note-verdict-spec =
@@ -63,14 +63,11 @@ note-verdict-spec =
     enum-known-note
     enum-told
     returns
+    values-verdict-requires
+    enum-known-found
     returns-2
-    returns-3
-    is-sized-requires
-    returns-4
-    is-sized-requires-2
-    returns-5
-    step-dur-requires
-    note-len-requires
-    passes-end-requires
-    returns-6
-    returns-7)
+    enum-told-2
+    place-note-requires
+    passes-requires
+    or-else-requires
+    returns-3)

@@ -4,17 +4,17 @@ use mathlib.Core.Path.{_≡_, refl}
 use native.Mathlib.Omega.{arith}
 use lib.ListN.{length}
 use Rattle.score.specs.Score.{scoreOf}
-use Rattle.score.specs.Refusals.{refusalOf, notesRefusal}
-use Rattle.score_verdict.proofs.Order.{Probed, probed-start, probed-more, probed-here, probed-none}
+use Rattle.score_verdict.proofs.Verdicts.{verdictIn, all-notes}
+use Rattle.outcome.proofs.First.{Probed, probed-start, probed-more, probed-here, probed-none}
 use borrow.Author.Needs.{needs}
 use Rattle.score_verdict.proofs.notes.notes_verdict.Statement.{statement}
 use Rattle.score_verdict.proofs.notes.notes_verdict.Tie as tie
 
 abbrev Inv-loop : tie.InvT-loop
-Inv-loop seq notes lane n count k₀ k = (Probed (refusalOf (scoreOf seq notes lane n)) (length notes / 5) k) × (count ≡ length notes / 5)
+Inv-loop seq notes lane lent count k₀ k = (Probed (verdictIn (scoreOf seq notes lane lent)) (length notes / 5) k) × (count ≡ length notes / 5)
 
 abbrev μ-loop : tie.MeasureT-loop
-μ-loop seq notes lane n count k₀ k = count - k
+μ-loop seq notes lane lent count k₀ k = count - k
 
 loop-holds : tie.Need-loop-holds Inv-loop μ-loop
 loop-holds c = (probed-start, refl)
@@ -29,8 +29,9 @@ enum-known-r : tie.Need-enum-known-r Inv-loop μ-loop
 enum-known-r c = search needs
 
 returns : tie.Need-returns Inv-loop μ-loop
-unfolding notesRefusal
-returns c = probed-here (c .before .before .before .before .before .before .loop .inv .0) (omega arith) (c .before .r .given .0 .0) (rw (c .before .r .given .1) at (rw (c .before .before .before .before .note-at .ensures) at (c .before .before .before .note-verdict .ensures)))
+returns c =
+    let v = rw (c .before .before .before .before .note-at .ensures) at (c .before .before .before .note-verdict .ensures) in
+    all-notes _ (probed-here (c .before .before .before .before .before .before .loop .inv .0) (omega arith) (rw (c .before .r .given .1) at v))
 
 enum-told : tie.Need-enum-told Inv-loop μ-loop
 enum-told c = search needs
@@ -42,11 +43,12 @@ loop-less : tie.Need-loop-less Inv-loop μ-loop
 loop-less c = omega arith
 
 loop-again : tie.Need-loop-again Inv-loop μ-loop
-loop-again c = (probed-more (c .before .before .before .before .before .loop .inv .0) (omega arith) (rw (c .enum-told .given .1) at (rw (c .before .before .before .note-at .ensures) at (c .before .before .note-verdict .ensures))), refl)
+loop-again c =
+    let v = rw (c .before .before .before .note-at .ensures) at (c .before .before .note-verdict .ensures) in
+    (probed-more (c .before .before .before .before .before .loop .inv .0) (omega arith) (rw (c .enum-told .given .1) at v), refl)
 
 returns-2 : tie.Need-returns-2 Inv-loop μ-loop
-unfolding notesRefusal
-returns-2 c = probed-none (c .before .loop .inv .0) (omega arith)
+returns-2 c = all-notes _ (probed-none (c .before .loop .inv .0) (omega arith))
 
 pub notes-verdict-spec : {M : Type 1} → statement M
 notes-verdict-spec =
