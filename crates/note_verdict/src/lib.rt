@@ -1,35 +1,10 @@
 // What refuses a note call, in the order of the tests.
 ghost use mathlib.Core.Path.{_≡_};
-ghost use Rattle.outcome.specs.Answer.{verdictNumber};
-ghost use Rattle.note_verdict.specs.NoteRefusals.{noteCallRefusal, valuesRefusal};
+ghost use Rattle.note_verdict.specs.NoteRefusals.{noteCallRefusal};
 use dsl::SeqVoice;
 use outcome::Refusal;
 use outcome::Verdict;
-
-// 10, 13 and 14.
-fn values_verdict(gain: f32, pitch: &[f32], duty: &[f32], n: usize) -> Verdict
-    ensures { λ r. ⌜ verdictNumber r ≡ valuesRefusal gain (now (pitch .entry)) (now (duty .entry)) n ⌝ }
-{
-    if !dsl::is_sized(gain) {
-        return Verdict::Refuse(Refusal::Size);
-    }
-    if !dsl::all_sized(pitch) {
-        return Verdict::Refuse(Refusal::Size);
-    }
-    if !dsl::all_sized(duty) {
-        return Verdict::Refuse(Refusal::Size);
-    }
-    if pitch.len() == 0 {
-        return Verdict::Refuse(Refusal::NoPitch);
-    }
-    if duty.len() != pitch.len() {
-        return Verdict::Refuse(Refusal::Lengths);
-    }
-    if n != pitch.len() {
-        return Verdict::Refuse(Refusal::Lengths);
-    }
-    Verdict::Fine
-}
+use outcome::or_else;
 
 // `n` is the output's length, `string` the string buffer's.
 pub fn note_call_verdict(
@@ -41,22 +16,23 @@ pub fn note_call_verdict(
     n: usize,
     string: usize,
 ) -> Verdict
-    ensures { λ r. ⌜ verdictNumber r ≡ noteCallRefusal rate voice gain (now (pitch .entry)) (now (duty .entry)) n string ⌝ }
+    ensures { λ r. ⌜ r ≡ noteCallRefusal (record {
+      rate = rate;
+      voice = voice;
+      gain = gain;
+      pitch = now (pitch .entry);
+      duty = now (duty .entry);
+      n = n;
+      string = string;
+    }) ⌝ }
 {
-    if rate < 8000 {
-        return Verdict::Refuse(Refusal::Rate);
-    }
-    if rate > 192000 {
-        return Verdict::Refuse(Refusal::Rate);
-    }
-    if n > 16777216 {
-        return Verdict::Refuse(Refusal::Frames);
-    }
-    if !dsl::knobs_sized(voice.fm, voice.pluck, voice.piano, voice.bass) {
-        return Verdict::Refuse(Refusal::Knobs);
-    }
-    if string < 9600 {
-        return Verdict::Refuse(Refusal::StringBuffer);
-    }
-    values_verdict(gain, pitch, duty, n)
+    let found = outcome::domain_verdict(rate, n);
+    let found = or_else(found, !dsl::knobs_sized(voice), Refusal::Knobs);
+    let found = or_else(found, string < 9600, Refusal::StringBuffer);
+    let found = or_else(found, !dsl::is_sized(gain), Refusal::Size);
+    let found = or_else(found, !dsl::all_sized(pitch), Refusal::Size);
+    let found = or_else(found, !dsl::all_sized(duty), Refusal::Size);
+    let found = or_else(found, pitch.len() == 0, Refusal::NoPitch);
+    let found = or_else(found, duty.len() != pitch.len(), Refusal::Lengths);
+    or_else(found, n != pitch.len(), Refusal::Lengths)
 }

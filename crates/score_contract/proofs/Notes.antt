@@ -8,16 +8,14 @@ use lib.Ieee.{Float}
 use Rattle.laws.proofs.If.{if-true, if-false}
 use Rattle.dsl.specs.declared.note.SeqNote.{SeqNote}
 use Rattle.dsl.specs.declared.note.Decoded.the-variants.{Note}
-use Rattle.groove.specs.Length.{skipped}
-use Rattle.mix.specs.Mix.{mixedAt}
-use Rattle.score.specs.Score.{Score, place}
-use Rattle.score_contract.specs.Frames.{samplesIn, mixedIn, withNote}
+use Rattle.score.specs.Score.{Score, place, skips}
+use Rattle.score_contract.specs.Frames.{samplesIn, mixNote, mixedIn, withNote}
 
 module _ (s : Score) (m : SeqNote) where
   pub skipped-frames : s .n ≤ place s m .start → (g : ℕ) (out : List Float) → out ≡ withNote s (Note m) g out
   unfolding withNote mixedIn
   skipped-frames late g out = if-true _ (le-leb _ _ late) refl
 
-  pub sounded-frames : skipped (s .n) (place s m .start) ≡ false → (g : ℕ) (out : List Float) → mixedAt (place s m .start) (samplesIn s m g) (s .seq .env) (place s m .len) (s .seq .rate) (place s m .gain) out ≡ withNote s (Note m) g out
+  pub sounded-frames : skips s m ≡ false → (g : ℕ) (out : List Float) → mixNote s m (samplesIn s m g) out ≡ withNote s (Note m) g out
   unfolding withNote mixedIn
   sounded-frames heard g out = if-false _ heard refl

@@ -6,7 +6,7 @@ use lib.ListN.{length, drop}
 use lib.Ieee.{Float}
 use Rattle.rng.specs.SplitMix64.{stateAfter}
 use Rattle.outcome.specs.Answer.{Result, refused, accepted, unless, seen, outAfter, free}
-use Rattle.score.specs.Score.{Score, scoreOf, scoreDraws}
+use Rattle.score.specs.Score.{Score, handed, scoreDraws}
 use Rattle.score_contract.specs.Frames.{scoreFrames}
 use Rattle.score.specs.Refusals.{refusalAt}
 use Rattle.score.specs.declared.seq.Seq.{Seq}
@@ -27,14 +27,14 @@ pub record Event : Type 0 where
   pub string : List Float
 
 abbrev pub scoreIn : Event → Score
-scoreIn e = scoreOf (e .seq) (e .notes) (e .lane) (length (e .out₀))
+scoreIn e = handed (e .seq) (e .notes) (e .lane) (e .out₀) (e .buffer₀) (e .string₀)
 
--- what a call comes to on a session whose generator stands at g and whose count is d; the note buffer has `room` values, the string buffer `string`
-unfoldable pub resultOf : Score → ℕ → ℕ → ℕ → ℕ → Result
-resultOf s room string g d = unless (refusalAt s room string d) (accepted (scoreDraws s) (scoreFrames s g 0))
+-- what a call comes to on a session whose generator stands at g and whose count is d
+unfoldable pub resultOf : Score → ℕ → ℕ → Result
+resultOf s g d = unless (refusalAt s d) (accepted (scoreDraws s) (scoreFrames s g 0))
 
 abbrev pub resultIn : Session → Event → Result
-resultIn a e = resultOf (scoreIn e) (length (e .buffer₀)) (length (e .string₀)) (a .rng .0) (a .draw)
+resultIn a e = resultOf (scoreIn e) (a .rng .0) (a .draw)
 
 -- "A refusal .. changes nothing"; an accepted call moves the generator and the count by its draws
 abbrev pub sessionAfter : Session → Result → Session

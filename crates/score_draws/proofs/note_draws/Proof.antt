@@ -56,8 +56,11 @@ returns-3 c =
     let b14 = c .before .before .before .before .before .before .before .before .before .before .before .before .before .before in
     let is = sym (b11 .note-at .ensures) ∙ b9 .note .given .1 in
     let heard = lt-leb _ _ (rw (b6 .place-note .ensures) at (c .before .before .before .if1 .left)) in
-    c .draw-count .ensures ∙ rw (c .before .at .ensures, b6 .place-note .ensures,
-        is) (sounded-draws (score-in (b14)) _ heard)
+    c .draw-count .ensures ∙ rw (
+      c .before .at .ensures,
+      b6 .place-note .ensures,
+      is,
+    ) (sounded-draws (score-in (b14)) _ heard)
 
 pub note-draws-spec : {M : Type 1} → statement M
 note-draws-spec =
