@@ -1,8 +1,8 @@
--- `voice_cowbell::sample::cowbell_sample` meets its contract: five calls by what they ensure. Assumes nothing.
+-- `voice_cowbell::cowbell_sample` meets its contract: five calls by what they ensure. Assumes nothing.
 use Rattle.voice_cowbell.specs.Cowbell.{cowbellOf}
 use borrow.Author.Needs.{needs}
-use Rattle.voice_cowbell.proofs.sample.cowbell_sample.Statement.{statement}
-use Rattle.voice_cowbell.proofs.sample.cowbell_sample.Tie as tie
+use Rattle.voice_cowbell.proofs.cowbell_sample.Statement.{statement}
+use Rattle.voice_cowbell.proofs.cowbell_sample.Tie as tie
 
 sin-requires : tie.Need-sin-requires
 sin-requires c κs = search needs
