@@ -1,3 +1,4 @@
+pub mod Early
 pub mod Thump
 pub mod Periods
 pub mod Few
