@@ -1,7 +1,7 @@
 -- "frame / rate < c in f32", where c is the f32 nearest to p / q seconds: at every rate of the domain it holds exactly where q × frame < p × rate, so of the first
 -- frames, p × rate / q of them rounded up, and of no other. A frame below p / q is at most p / q less 1 / (q × 192,000), which is no more than the f32 before c, so
 -- it rounds to at most that. Any other frame is at least p / q, which rounds to c. Assumes nothing.
-use mathlib.Core.Path.{_≡_, refl, sym, ap, _∙_, subst}
+use mathlib.Core.Path.{_≡_, refl, sym, ap, _∙_}
 use Prim.Native.Nat.{ℕ, zero, suc, _+_, _-_, _*_, _/_, _^_, _≤_, _<_, min}
 use native.Mathlib.Nat.{le-of-lt, le-trans, le-of-eq, lt-of-lt-of-le, zero-lt-suc, add-mul, one-mul, mul-assoc, mul-comm, mul-right-comm, mul-suc, mul-le-mul-left, mul-le-mul-right, mul-lt-mul-of-pos-right, le-of-mul-le-mul-left, le-div-iff-mul-le}
 use native.Mathlib.Omega.{arith}

@@ -2,3 +2,4 @@ pub mod Early
 pub mod Thump
 pub mod Periods
 pub mod Few
+pub mod Drawing

@@ -1,13 +1,11 @@
 -- "Piano draws while frame / rate < 0.006 in f32; on this domain that is the formula of demand 3, and this is proved." Assumes nothing.
-use mathlib.Core.Path.{_≡_, refl}
+use mathlib.Core.Path.{_≡_}
 use Prim.Native.Nat.{ℕ, _*_, _^_, _≤_, _<_, min}
-use lib.Dec.{ltb, lit<, lit≤}
-use lib.Ieee.{Float, round, odd, size, ofBits}
-use Rattle.ieee.specs.Numbers.{c0·006, f32}
+use lib.Dec.{ltb}
+use Rattle.ieee.specs.Numbers.{f32}
 use Rattle.ieee.specs.Binary32.{_⊘_}
 use Rattle.dsl.specs.Domain.{Rate}
-use Rattle.dsl.specs.declared.wave.SeqWave.the-variants.{Piano}
-use Rattle.counts.specs.Draws.{thumps, thumpFrames, drawsOf, passing}
+use Rattle.counts.specs.Draws.{thumps, thumpFrames, passing}
 use Rattle.counts.proofs.Early.{c0·006-seconds, early-is, early-count}
 
 -- the test on f32 is the test on whole numbers
