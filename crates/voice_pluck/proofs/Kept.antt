@@ -1,4 +1,4 @@
--- Where the first e values of a slice were written, what stands past m of them stays. Use for what is not free of a lent buffer. Assumes nothing.
+-- What stands past 9,600 values of a lent string stays, since no period is longer. Use for what is not free of a lent buffer. Assumes nothing.
 use Prim.Native.Nat.{ℕ, _+_, _-_, _≤_}
 use mathlib.Core.Path.{_≡_, sym, ap, _∙_}
 use mathlib.Core.List.{List, _++_}
@@ -7,10 +7,10 @@ use lib.ListN.{length, drop}
 use lib.Seq.{drop-append-add, drop-drop}
 use lib.Ieee.{Float}
 use Rattle.dsl.specs.declared.knobs.PluckKnobs.{PluckKnobs}
 use Rattle.voice_pluck.specs.Pluck.{pluckString}
 use Rattle.voice_pluck.proofs.Rings.{pluck-string-length}
 
-pub kept-past : (m : ℕ) (A l : List Float) (e : ℕ) → length A ≡ e → e ≤ m → drop m (A ++ drop e l) ≡ drop m l
+kept-past : (m : ℕ) (A l : List Float) (e : ℕ) → length A ≡ e → e ≤ m → drop m (A ++ drop e l) ≡ drop m l
 kept-past m A l e len most =
     let z : length A + (m - e) ≡ m = omega arith in
     let y : e + (m - e) ≡ m = omega arith in
