@@ -23,17 +23,12 @@ fn pulse(phase: f32, duty: f32, second: f32, dt: f32) -> f32
     level(phase, duty) + osc::poly_blep(phase, dt) - osc::poly_blep(second, dt)
 }
 
-// x less its whole part. Below 2, where a phase and less than a period more lie, that part is 0 or 1
-// by comparisons alone.
+// x less its whole part. Above 0 that part is the floor, which `osc::wrap` takes off.
 fn fract(x: f32) -> f32
     ensures { λ r. ⌜ r ≡ fractOf binary32 x ⌝ }
 {
-    if x < 1.0 {
-        if x > 0.0 {
-            return x - 0.0;
-        }
-    } else if x < 2.0 {
-        return x - 1.0;
+    if x > 0.0 {
+        return osc::wrap(x);
     }
     float::fract_f32(x)
 }
