@@ -19,7 +19,7 @@ use Rattle.dsl.specs.declared.note.SeqNote.{SeqNote}
 use Rattle.dsl.specs.declared.note.Decoded.{Decoded}
 use Rattle.dsl.specs.declared.note.Decoded.the-variants.{Note, Kind}
 use Rattle.groove.specs.Humanize.{seedOf, humanizeDraws}
-use Rattle.groove.specs.Timing.{stepDur, humanOf, grooveOf}
+use Rattle.groove.specs.Timing.{stepDur, humanDelay, grooveOf}
 use Rattle.groove.specs.Length.{lengthOf, skipped, soundedOf}
 use Rattle.counts.specs.Draws.{drawsOf}
 use Rattle.score.specs.Score.{Score, noteAt, count, durOf, placeOf, place, pitch, drawsIn, noteDraws, drawsBefore, scoreDraws}
@@ -81,7 +81,7 @@ note step len p gain = record { step = step; len = len; pitch = p; gain = gain }
 -- a note's gain does not move its start
 start-by : (step len : ℕ) (p : Pitch) (gain gain′ swing humanize dur : Float) (b : Bool) → lt c0 humanize ≡ b
     → grooveOf (note step len p gain) swing humanize dur .start ≡ grooveOf (note step len p gain′) swing humanize dur .start
-unfolding grooveOf humanOf humanizeDraws seedOf
+unfolding grooveOf humanDelay humanizeDraws seedOf
 start-by step len p gain gain′ swing humanize dur true e = rw e
 start-by step len p gain gain′ swing humanize dur false e = rw e
 

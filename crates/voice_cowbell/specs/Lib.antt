@@ -1,2 +1,1 @@
 pub mod Cowbell
-pub mod Voice

@@ -1,2 +1,2 @@
-pub mod Built
-pub mod Pianos
+mod Built
+mod Sound

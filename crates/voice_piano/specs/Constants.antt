@@ -13,10 +13,6 @@ c5e-5 = ofBits binary32 0x3851b717
 abbrev pub c7e-5 : Float
 c7e-5 = ofBits binary32 0x3892ccf7
 
--- 1e-3
-abbrev pub c1e-3 : Float
-c1e-3 = ofBits binary32 0x3a83126f
-
 -- 1.2e-3
 abbrev pub c1·2e-3 : Float
 c1·2e-3 = ofBits binary32 0x3a9d4952

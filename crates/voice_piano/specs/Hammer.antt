@@ -4,7 +4,7 @@ use mathlib.Core.Bool.{cond}
 use mathlib.Core.List.{List, [], _∷_}
 use lib.IntN.{pos}
 use lib.Ieee.{Float, binary32, ofInt, lt}
-use Rattle.ieee.specs.Numbers.{c0, c0·01, c0·45, c0·5, c0·55, c1, c10, c20}
+use Rattle.ieee.specs.Numbers.{c0, c0·001, c0·01, c0·45, c0·5, c0·55, c1, c10, c20}
 use Rattle.ieee.specs.Binary32.{_⊕_, _⊖_, _⊗_, _⊘_}
 use Rattle.ieee.specs.Order.{maxOf, clampOf}
 use Rattle.ieee.specs.Root.{sqrtOf}
@@ -12,7 +12,7 @@ use Rattle.ieee.specs.Sign.{absOf}
 use Rattle.ieee.specs.Whole.{fractOf}
 use Rattle.dsp.specs.Kernels.{sinOf, powfOf, onePole}
 use Rattle.dsl.specs.declared.knobs.PianoKnobs.{PianoKnobs}
-use Rattle.voice_piano.specs.Constants.{PI, c7e-5, c5e-5, c1·2e-3, c1e-3, c0·05, c0·18, c0·381966, c0·618034, c9, c55, c110}
+use Rattle.voice_piano.specs.Constants.{PI, c7e-5, c5e-5, c1·2e-3, c0·05, c0·18, c0·381966, c0·618034, c9, c55, c110}
 use Rattle.voice_piano.specs.declared.hammer.Blow.{Blow}
 use Rattle.voice_piano.specs.declared.hammer.Partial.{Partial}
 
@@ -27,7 +27,7 @@ blowOf k gain pitch =
       decay = clampOf (c10 ⊗ k .«piano_decay» ⊘ (c1 ⊕ f0 ⊘ c110)) c0·45 c9;
       strike = clampOf (k .«piano_strike») c0·01 c0·5;
       bright = c0·45 ⊕ c0·55 ⊗ gain;
-      hammer = maxOf (k .«piano_hammer») c1e-3;
+      hammer = maxOf (k .«piano_hammer») c0·001;
     }
 
 -- the number of a partial, `k as f32`

@@ -1,15 +1,16 @@
--- `piano_note` of render/seq.rs. `f` is the pitch by frame, `srf` the rate, `s` a state of the generator.
+-- `piano_note` of render/seq.rs. `fi` is the pitch at frame i, `f` the pitch by frame, `srf` the rate, `s` a state of the generator.
 use Prim.Native.Nat.{ℕ}
-use mathlib.Core.Bool.{Bool, cond}
+use mathlib.Core.Bool.{cond}
 use mathlib.Core.List.{List, map, foldl}
 use lib.ListN.{take}
-use lib.Ieee.{Float, neg, lt}
+use lib.Ieee.{Float, neg}
 use Rattle.ieee.specs.Numbers.{c0, c0·006, c0·3, c0·5, c1, c2}
-use Rattle.laws.specs.Run.{stateAt, samples}
+use Rattle.laws.specs.Run.{samples}
 use Rattle.ieee.specs.Binary32.{_⊕_, _⊖_, _⊗_, _⊘_}
 use Rattle.ieee.specs.Order.{maxOf}
 use Rattle.rng.specs.SplitMix64.{advance}
 use Rattle.dsl.specs.declared.knobs.PianoKnobs.{PianoKnobs}
+use Rattle.counts.specs.Draws.{thumps}
 use Rattle.osc.specs.Phase.{increment, seconds}
 use Rattle.voice_piano.specs.Constants.{c1e-6}
 use Rattle.rng.specs.Draw.{biFrom}
@@ -19,16 +20,12 @@ use Rattle.voice_piano.specs.declared.hammer.Partial.{Partial}
 use Rattle.voice_piano.specs.declared.wires.Pair.{Pair}
 use Rattle.voice_piano.specs.declared.piano.PianoState.{PianoState}
 
--- whether the hammer is heard at time t
-abbrev pub thumping : Float → Bool
-thumping t = lt t c0·006
-
 -- "Felt-hammer thump: a few ms of soft noise on the attack", and the generator after it
 unfoldable pub thumpOf : Float → ℕ → Float
-thumpOf t s = cond (thumping t) (biFrom s ⊗ c0·3 ⊗ (c1 ⊖ t ⊘ c0·006)) c0
+thumpOf t s = cond (thumps t) (biFrom s ⊗ c0·3 ⊗ (c1 ⊖ t ⊘ c0·006)) c0
 
 unfoldable pub thumpEnd : Float → ℕ → ℕ
-thumpEnd t s = cond (thumping t) (advance s) s
+thumpEnd t s = cond (thumps t) (advance s) s
 
 -- what goes from frame to frame
 pub record Piano : Type 0 where
@@ -43,9 +40,9 @@ pub record PianoFrame : Type 0 where
 abbrev pub heard : ℕ → PianoState → Piano
 heard count s = record { partials = take count (s .items); rng = s .rng .0 }
 
-unfoldable pub pianoAt : (ℕ → Float) → Float → Pair → Float → ℕ → Piano → PianoFrame
-pianoAt f srf det norm i s =
-    let dt = increment (f i) srf in
+unfoldable pub pianoAt : Float → Float → Pair → Float → ℕ → Piano → PianoFrame
+pianoAt fi srf det norm i s =
+    let dt = increment fi srf in
     let t = seconds srf i in
     record {
       sample = foldl added c0 (s .partials) ⊗ norm ⊕ thumpOf t (s .rng);
@@ -56,12 +53,9 @@ pianoAt f srf det norm i s =
 unfoldable pub normOf : List Partial → Float
 normOf ps = c0·5 ⊘ (c2 ⊗ maxOf (foldl ampAdded (neg c0) ps) c1e-6)
 
--- n frames from a state on, and the generator after them
+-- n frames from a state on
 unfoldable pub soundFrames : (ℕ → Float) → Float → Pair → Float → Piano → ℕ → List Float
-soundFrames f srf det norm start n = samples (pianoAt f srf det norm) (λ r. r .sample) (λ r. r .state) start n
-
-unfoldable pub soundEnd : (ℕ → Float) → Float → Pair → Float → Piano → ℕ → ℕ
-soundEnd f srf det norm start n = stateAt (pianoAt f srf det norm) (λ r. r .sample) (λ r. r .state) start n .rng
+soundFrames f srf det norm start n = samples (λ i. pianoAt (f i) srf det norm i) (λ r. r .sample) (λ r. r .state) start n
 
 -- the note; the pitch at frame 0 is its fundamental
 unfoldable pub pianoFrames : (ℕ → Float) → PianoKnobs → Float → Float → ℕ → ℕ → List Float

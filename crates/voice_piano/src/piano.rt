@@ -1,11 +1,16 @@
-// The piano.
+// A grand piano: up to 18 partials, stretched sharp by the string's stiffness, each on two strings a
+// little apart, whose slow beating is the shimmer; high partials die first. A hammer's thump of noise
+// comes with the attack.
 ghost use mathlib.Core.Path.{_≡_};
-ghost use Prim.Native.Nat.{_+_, _≤_};
+ghost use Prim.Native.Nat.{_≤_, min};
 ghost use lib.ListN.{length, take};
+ghost use Rattle.ieee.specs.Numbers.{f32};
 ghost use Rattle.rng.specs.SplitMix64.{stateAfter};
+ghost use Rattle.dsl.specs.Domain.{Rate, Frames};
 ghost use Rattle.dsl.specs.Pitch.{pitchAt, reaches};
-ghost use Rattle.voice_piano.specs.Piano.{thumpOf, thumpEnd, heard, pianoAt, normOf, soundFrames, soundEnd, pianoFrames};
-ghost use Rattle.counts.specs.Draws.{thumps, count};
+ghost use Rattle.voice_piano.specs.Piano.{thumpOf, thumpEnd, heard, pianoAt, normOf, soundFrames, pianoFrames};
+ghost use Rattle.osc.specs.Phase.{seconds};
+ghost use Rattle.counts.specs.Draws.{thumps, thumpFrames, passing};
 use crate::hammer::Partial;
 use crate::hammer::hammer_blow;
 use crate::hammer::piano_partials;
@@ -43,9 +48,9 @@ fn thump(t: f32, rng: Rng) -> DrawF32
     DrawF32 { value: 0.0, rng }
 }
 
+// A frame at the pitch `fi`, of the first `count` partials.
 fn piano_at(
-    pitch: Pitch,
-    lane: &[f32],
+    fi: f32,
     srf: f32,
     count: usize,
     det: Pair,
@@ -53,11 +58,12 @@ fn piano_at(
     i: usize,
     s: PianoState,
 ) -> PianoOut
-    requires { ⌜ reaches pitch (length (now lane)) (i + 1) ⌝ }
-    requires { ⌜ (i ≤ 16777216) × (count ≤ 18) ⌝ }
-    ensures { λ r. ⌜ (r .sample ≡ pianoAt (pitchAt pitch (now (lane .entry))) srf det norm i (heard count s) .sample) × (heard count (r .state) ≡ pianoAt (pitchAt pitch (now (lane .entry))) srf det norm i (heard count s) .state) ⌝ }
+    requires { ⌜ Frames i ⌝ }
+    requires { ⌜ count ≤ 18 ⌝ }
+    ensures { λ r. ⌜ r .sample ≡ pianoAt fi srf det norm i (heard count s) .sample ⌝ }
+    ensures { λ r. ⌜ heard count (r .state) ≡ pianoAt fi srf det norm i (heard count s) .state ⌝ }
 {
-    let dt = osc::phase_step(pitch.at(lane, i), srf);
+    let dt = osc::phase_step(fi, srf);
     let items = s.items;
     let w = wires_at(items, count, dt, det);
     let rng = s.rng;
@@ -71,6 +77,7 @@ fn piano_at(
     }
 }
 
+// The frames of a note's partials. It draws while the hammer is heard, whatever the pitch.
 fn sound_piano(
     pitch: Pitch,
     lane: &[f32],
@@ -82,13 +89,15 @@ fn sound_piano(
     out: &mut [f32],
 ) -> Rng
     requires { ⌜ reaches pitch (length (now lane)) (length (now out)) ⌝ }
-    requires { ⌜ (length (now out) ≤ 16777216) × (count ≤ 18) ⌝ }
-    ensures { λ r. ⌜ (now (out .exit) ≡ soundFrames (pitchAt pitch (now (lane .entry))) srf det norm (heard count start) (length (now (out .entry)))) × (r .0 ≡ soundEnd (pitchAt pitch (now (lane .entry))) srf det norm (heard count start) (length (now (out .entry)))) ⌝ }
+    requires { ⌜ Frames (length (now out)) ⌝ }
+    requires { ⌜ count ≤ 18 ⌝ }
+    ensures { λ _. ⌜ now (out .exit) ≡ soundFrames (pitchAt pitch (now (lane .entry))) srf det norm (heard count start) (length (now (out .entry))) ⌝ }
+    ensures { λ r. ⌜ r .0 ≡ stateAfter (start .rng .0) (passing (λ i. thumps (seconds srf i)) (length (now (out .entry)))) ⌝ }
 {
     let mut s = start;
     let mut i = 0usize;
     while i < out.len() {
-        let r = piano_at(pitch, lane, srf, count, det, norm, i, s);
+        let r = piano_at(pitch.at(lane, i), srf, count, det, norm, i, s);
         out[i] = r.sample;
         s = r.state;
         i += 1;
@@ -104,24 +113,27 @@ fn loudness(items: [Partial; 18], count: usize) -> f32
     0.5 / (2.0 * float::max_f32(amp_sum(items, count), 1e-6))
 }
 
-// A grand piano: up to 18 partials, stretched by the string's stiffness, each on two strings a little
-// apart, with the hammer's thump.
+// Hands back the generator after a draw for each frame of the thump; with no frame there is no first
+// pitch to read.
 pub fn piano_note(
     knobs: PianoKnobs,
     gain: f32,
     pitch: Pitch,
     lane: &[f32],
-    srf: f32,
+    rate: u32,
     rng: Rng,
     out: &mut [f32],
 ) -> Rng
+    requires { ⌜ Rate rate ⌝ }
     requires { ⌜ reaches pitch (length (now lane)) (length (now out)) ⌝ }
-    requires { ⌜ length (now out) ≤ 16777216 ⌝ }
-    ensures { λ r. ⌜ (now (out .exit) ≡ pianoFrames (pitchAt pitch (now (lane .entry))) knobs gain srf (rng .0) (length (now (out .entry)))) × (r .0 ≡ stateAfter (rng .0) (count (thumps srf) (length (now (out .entry))))) ⌝ }
+    requires { ⌜ Frames (length (now out)) ⌝ }
+    ensures { λ _. ⌜ now (out .exit) ≡ pianoFrames (pitchAt pitch (now (lane .entry))) knobs gain (f32 rate) (rng .0) (length (now (out .entry))) ⌝ }
+    ensures { λ r. ⌜ r .0 ≡ stateAfter (rng .0) (min (length (now (out .entry))) (thumpFrames rate)) ⌝ }
 {
     if out.len() == 0 {
         return rng;
     }
+    let srf = std::num::nearest_u32_to_f32(rate);
     let ps = piano_partials(hammer_blow(knobs, gain, pitch.at(lane, 0)), srf);
     let items = ps.items;
     let count = ps.count;

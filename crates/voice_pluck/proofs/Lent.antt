@@ -6,26 +6,26 @@ use lib.ListN.{length, take, drop}
 use lib.Seq.{length-take-le, take-at, drop-at}
 use lib.Ieee.{Float}
 use Rattle.rng.specs.SplitMix64.{stateAfter}
-use Rattle.voice_pluck.specs.Noise.{noise}
+use Rattle.voice_noise.specs.Noise.{noiseFrames}
 use Rattle.voice_pluck.specs.Guitar.{timbreOf}
 use Rattle.voice_pluck.specs.Pluck.{ringFrames, ringAfter, pluckFrames, pluckString}
 use Rattle.voice_pluck.specs.declared.guitar.Timbre.{Timbre}
 use Rattle.dsl.specs.declared.knobs.PluckKnobs.{PluckKnobs}
-use Rattle.voice_pluck.proofs.Noise.{noise-length}
+use Rattle.voice_noise.proofs.Draws.{noise-length}
 
 module _ (l : List Float) (s period : ℕ) (fits : period ≤ length l) where
   pub state-drawn : {r : ℕ} → r ≡ stateAfter s (length (take period l)) → r ≡ stateAfter s period
   state-drawn e = e ∙ ap (stateAfter s) (length-take-le period l fits)
 
-  module _ {p : List Float} (drawn : p ≡ noise s (length (take period l))) where
-    all-drawn : p ≡ noise s period
-    all-drawn = drawn ∙ ap (noise s) (length-take-le period l fits)
+  module _ {p : List Float} (drawn : p ≡ noiseFrames s (length (take period l))) where
+    all-drawn : p ≡ noiseFrames s period
+    all-drawn = drawn ∙ ap (noiseFrames s) (length-take-le period l fits)
 
     length-drawn : length p ≡ period
     length-drawn = ap length all-drawn ∙ noise-length s period
 
     -- what is lent the second time
-    pub lent-drawn : take period (p ++ drop period l) ≡ noise s period
+    pub lent-drawn : take period (p ++ drop period l) ≡ noiseFrames s period
     lent-drawn = take-at p (drop period l) period length-drawn ∙ all-drawn
 
     pub lent-length : period ≡ length (take period (p ++ drop period l))

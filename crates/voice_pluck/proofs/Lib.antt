@@ -1,3 +1,3 @@
-pub mod Noise
-pub mod Rings
-pub mod Lent
+mod Rings
+mod Lent
+pub mod Kept

@@ -8,7 +8,7 @@ use Rattle.laws.specs.Run.{stateAt}
 use Rattle.dsl.specs.declared.knobs.PluckKnobs.{PluckKnobs}
 use Rattle.voice_pluck.specs.Pluck.{ringAt, ringAfter, pluckString}
 use Rattle.voice_pluck.specs.declared.guitar.Timbre.{Timbre}
-use Rattle.voice_pluck.proofs.Noise.{noise-length}
+use Rattle.voice_noise.proofs.Draws.{noise-length}
 
 ring-length : (k : PluckKnobs) (g : Timbre) (srf : Float) (string : List Float) (n : ℕ) → length (ringAfter k g srf string n) ≡ length string
 unfolding ringAfter stateAt ringAt

@@ -1,4 +1,3 @@
 pub mod Constants
-pub mod Noise
 pub mod Guitar
 pub mod Pluck

@@ -9,7 +9,7 @@ use Rattle.laws.specs.Run.{stateAt, samples}
 use Rattle.ieee.specs.Binary32.{_⊕_, _⊖_, _⊗_, _⊘_}
 use Rattle.dsl.specs.declared.knobs.PluckKnobs.{PluckKnobs}
 use Rattle.osc.specs.Phase.{seconds}
-use Rattle.voice_pluck.specs.Noise.{noise}
+use Rattle.voice_noise.specs.Noise.{noiseFrames}
 use Rattle.voice_pluck.specs.Guitar.{timbreOf, allRung}
 use Rattle.voice_pluck.specs.declared.guitar.Timbre.{Timbre}
 use Rattle.voice_pluck.specs.declared.pluck.Pick.{Pick}
@@ -80,7 +80,7 @@ ringAfter k g srf string n = stateAt (ringAt k g srf) (λ r. r .sample) (λ r. r
 
 -- the note: the string is noise, a draw for each value
 abbrev pub pluckFrames : PluckKnobs → Float → ℕ → ℕ → ℕ → List Float
-pluckFrames k srf period s n = ringFrames k (timbreOf (k .«pluck_tone») srf) srf (noise s period) n
+pluckFrames k srf period s n = ringFrames k (timbreOf (k .«pluck_tone») srf) srf (noiseFrames s period) n
 
 abbrev pub pluckString : PluckKnobs → Float → ℕ → ℕ → ℕ → List Float
-pluckString k srf period s n = ringAfter k (timbreOf (k .«pluck_tone») srf) srf (noise s period) n
+pluckString k srf period s n = ringAfter k (timbreOf (k .«pluck_tone») srf) srf (noiseFrames s period) n

@@ -1,16 +1,22 @@
-// The plucked string.
+// The plucked string of Karplus and Strong: noise in a ring as long as a period, which a loop filter
+// damps each time round, with a pick's click and a guitar's body. At their defaults the tone, body and
+// pick change nothing.
 ghost use mathlib.Core.Path.{_≡_};
 ghost use mathlib.Core.List.{_++_};
 ghost use Prim.Native.Nat.{_+_, _%_, _≤_, _<_};
 ghost use lib.ListN.{length, drop};
+ghost use Rattle.ieee.specs.Numbers.{f32};
+ghost use Rattle.dsl.specs.Domain.{Rate, Frames};
+ghost use Rattle.dsl.specs.Pitch.{pitchAt, reaches};
+ghost use Rattle.counts.specs.Period.{periodOf};
 ghost use Rattle.rng.specs.SplitMix64.{stateAfter};
-ghost use Rattle.voice_pluck.specs.Noise.{noise};
 ghost use Rattle.voice_pluck.specs.Pluck.{picked, plucked, atRest, ringFrames, ringAfter, pluckFrames, pluckString};
 use crate::guitar::Echo;
 use crate::guitar::Echoes;
 use crate::guitar::Timbre;
 use crate::guitar::guitar_timbre;
 use crate::guitar::ring_all;
+use dsl::Pitch;
 use dsl::PluckKnobs;
 use rng::Rng;
 
@@ -70,7 +76,7 @@ fn pluck_at(
     next: f32,
     s: PluckState,
 ) -> PluckOut
-    requires { ⌜ i ≤ 16777216 ⌝ }
+    requires { ⌜ Frames i ⌝ }
     ensures { λ r. ⌜ r ≡ plucked k g srf i y next s ⌝ }
 {
     let click = click(k.pluck_pick, osc::frame_time(i, srf), y, s.pick);
@@ -117,8 +123,10 @@ fn at_rest() -> PluckState
 
 // The frames of a string, all of which is the ring that the loop filter goes round.
 fn ring_string(k: PluckKnobs, g: Timbre, srf: f32, string: &mut [f32], out: &mut [f32])
-    requires { ⌜ (0 < length (now string)) × (length (now out) ≤ 16777216) ⌝ }
-    ensures { λ _. ⌜ (now (out .exit) ≡ ringFrames k g srf (now (string .entry)) (length (now (out .entry)))) × (now (string .exit) ≡ ringAfter k g srf (now (string .entry)) (length (now (out .entry)))) ⌝ }
+    requires { ⌜ 0 < length (now string) ⌝ }
+    requires { ⌜ Frames (length (now out)) ⌝ }
+    ensures { λ _. ⌜ now (out .exit) ≡ ringFrames k g srf (now (string .entry)) (length (now (out .entry))) ⌝ }
+    ensures { λ _. ⌜ now (string .exit) ≡ ringAfter k g srf (now (string .entry)) (length (now (out .entry))) ⌝ }
 {
     let mut s = at_rest();
     let mut spos = 0usize;
@@ -134,24 +142,9 @@ fn ring_string(k: PluckKnobs, g: Timbre, srf: f32, string: &mut [f32], out: &mut
     }
 }
 
-// The string before it sounds: a draw for each value.
-fn draw_string(rng: Rng, string: &mut [f32]) -> Rng
-    ensures { λ r. ⌜ (now (string .exit) ≡ noise (rng .0) (length (now (string .entry)))) × (r .0 ≡ stateAfter (rng .0) (length (now (string .entry)))) ⌝ }
-{
-    let mut rng = rng;
-    let mut k = 0usize;
-    while k < string.len() {
-        let d = rng.bi();
-        string[k] = d.value;
-        rng = d.rng;
-        k += 1;
-    }
-    rng
-}
-
-// Karplus-Strong: a string of noise, as long as the first pitch's period, that a loop filter damps,
-// with the pick's click and a guitar's body. The values of `string` past the period stay.
-pub fn pluck_note(
+// The note of a string of `period` values: noise, a draw for each, that then sounds. The values of
+// `string` past the period stay.
+fn sound_string(
     knobs: PluckKnobs,
     srf: f32,
     period: usize,
@@ -159,11 +152,40 @@ pub fn pluck_note(
     string: &mut [f32],
     out: &mut [f32],
 ) -> Rng
-    requires { ⌜ (0 < period) × (period ≤ length (now string)) × (length (now out) ≤ 16777216) ⌝ }
-    ensures { λ r. ⌜ (now (out .exit) ≡ pluckFrames knobs srf period (rng .0) (length (now (out .entry)))) × (now (string .exit) ≡ pluckString knobs srf period (rng .0) (length (now (out .entry))) ++ drop period (now (string .entry))) × (r .0 ≡ stateAfter (rng .0) period) ⌝ }
+    requires { ⌜ 0 < period ⌝ }
+    requires { ⌜ period ≤ length (now string) ⌝ }
+    requires { ⌜ Frames (length (now out)) ⌝ }
+    ensures { λ _. ⌜ now (out .exit) ≡ pluckFrames knobs srf period (rng .0) (length (now (out .entry))) ⌝ }
+    ensures { λ _. ⌜ now (string .exit) ≡ pluckString knobs srf period (rng .0) (length (now (out .entry))) ++ drop period (now (string .entry)) ⌝ }
+    ensures { λ r. ⌜ r .0 ≡ stateAfter (rng .0) period ⌝ }
 {
-    let after = draw_string(rng, &mut string[..period]);
+    let after = voice_noise::noise(rng, &mut string[..period]);
     let g = guitar_timbre(knobs.pluck_tone, srf);
     ring_string(knobs, g, srf, &mut string[..period], out);
     after
+}
+
+// The string has the period of the first pitch, and no other pitch is read. Of `string` at most the
+// first 9,600 values are used. Hands back the generator after a draw for each value of the period.
+pub fn pluck_note(
+    knobs: PluckKnobs,
+    pitch: Pitch,
+    lane: &[f32],
+    rate: u32,
+    rng: Rng,
+    string: &mut [f32],
+    out: &mut [f32],
+) -> Rng
+    requires { ⌜ Rate rate ⌝ }
+    requires { ⌜ reaches pitch (length (now lane)) (length (now out)) ⌝ }
+    requires { ⌜ 0 < length (now out) ⌝ }
+    requires { ⌜ Frames (length (now out)) ⌝ }
+    requires { ⌜ 9600 ≤ length (now string) ⌝ }
+    ensures { λ _. ⌜ now (out .exit) ≡ pluckFrames knobs (f32 rate) (periodOf rate (pitchAt pitch (now (lane .entry)) 0)) (rng .0) (length (now (out .entry))) ⌝ }
+    ensures { λ _. ⌜ now (string .exit) ≡ pluckString knobs (f32 rate) (periodOf rate (pitchAt pitch (now (lane .entry)) 0)) (rng .0) (length (now (out .entry))) ++ drop (periodOf rate (pitchAt pitch (now (lane .entry)) 0)) (now (string .entry)) ⌝ }
+    ensures { λ r. ⌜ r .0 ≡ stateAfter (rng .0) (periodOf rate (pitchAt pitch (now (lane .entry)) 0)) ⌝ }
+{
+    let period = counts::string_period(rate, pitch.at(lane, 0));
+    let srf = std::num::nearest_u32_to_f32(rate);
+    sound_string(knobs, srf, period, rng, string, out)
 }

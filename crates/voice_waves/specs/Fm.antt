@@ -1,4 +1,4 @@
--- `SeqWave::Fm` of `seq_note_signal`. `f` is the pitch by frame, `srf` the rate, `gain` the note's own gain.
+-- `SeqWave::Fm` of `seq_note_signal`. `fi` is the pitch at frame i, `f` the pitch by frame, `srf` the rate, `gain` the note's own gain.
 use Prim.Native.Nat.{ℕ}
 use mathlib.Core.List.{List}
 use lib.Ieee.{Float, neg}
@@ -18,13 +18,13 @@ fmIndex knobs gain srf i =
     let t = seconds srf i in
     knobs .«fm_index» ⊗ (c0·4 ⊕ c0·6 ⊗ gain) ⊗ expOf (neg t ⊘ maxOf (knobs .«fm_strike») c0·001)
 
-unfoldable pub fmAt : (ℕ → Float) → FmKnobs → Float → Float → ℕ → FmState → FmOut
+unfoldable pub fmAt : Float → FmKnobs → Float → Float → ℕ → FmState → FmOut
 unfolding fmIndex
-fmAt f knobs gain srf i s =
-    let dt = increment (f i) srf in
+fmAt fi knobs gain srf i s =
+    let dt = increment fi srf in
     let m = fmIndex knobs gain srf i ⊗ sinOf (TAU ⊗ s .mph) in
     record { sample = sinOf (TAU ⊗ s .cph ⊕ m); state = record { cph = wrapped (s .cph ⊕ dt); mph = wrapped (s .mph ⊕ dt ⊗ knobs .«fm_ratio») } }
 
 unfoldable pub fmFrames : (ℕ → Float) → FmKnobs → Float → Float → ℕ → List Float
 unfolding fmAt
-fmFrames f knobs gain srf n = samples (fmAt f knobs gain srf) (λ r. r .sample) (λ r. r .state) (record { cph = c0; mph = c0 }) n
+fmFrames f knobs gain srf n = samples (λ i. fmAt (f i) knobs gain srf i) (λ r. r .sample) (λ r. r .state) (record { cph = c0; mph = c0 }) n

@@ -1,4 +1,3 @@
 pub mod Plain
 pub mod Pulse
-pub mod Noise
 pub mod Fm

@@ -1,4 +1,4 @@
--- `SeqWave::Square` and `SeqWave::Triangle` of `seq_note_signal`. `f` is the pitch and `d` the duty by frame, `srf` the rate.
+-- `SeqWave::Square` and `SeqWave::Triangle` of `seq_note_signal`. `fi` and `di` are the pitch and the duty at frame i, `f` and `d` by frame, `srf` the rate.
 use Prim.Native.Nat.{ℕ}
 use mathlib.Core.Bool.{cond}
 use mathlib.Core.List.{List}
@@ -31,25 +31,25 @@ unfoldable pub pulseOf : Float → Float → Float → Float → Float
 unfolding levelOf
 pulseOf phase duty second dt = levelOf phase duty ⊕ polyBlep phase dt ⊖ polyBlep second dt
 
-unfoldable pub squareAt : (ℕ → Float) → (ℕ → Float) → Float → ℕ → Float → PhaseOut
+unfoldable pub squareAt : Float → Float → Float → Float → PhaseOut
 unfolding pulseOf
-squareAt f d srf i phase =
-    let dt = increment (f i) srf in
-    let duty = clampOf (d i) c0·01 c0·99 in
+squareAt fi di srf phase =
+    let dt = increment fi srf in
+    let duty = clampOf di c0·01 c0·99 in
     record { sample = pulseOf phase duty (fractOf binary32 (phase ⊖ duty ⊕ c1)) dt; state = wrapped (phase ⊕ dt) }
 
 unfoldable pub squareFrames : (ℕ → Float) → (ℕ → Float) → Float → ℕ → List Float
 unfolding squareAt
-squareFrames f d srf n = samples (squareAt f d srf) (λ r. r .sample) (λ r. r .state) c0 n
+squareFrames f d srf n = samples (λ i. squareAt (f i) (d i) srf) (λ r. r .sample) (λ r. r .state) c0 n
 
-unfoldable pub triangleAt : (ℕ → Float) → Float → ℕ → TriangleState → TriangleOut
+unfoldable pub triangleAt : Float → Float → TriangleState → TriangleOut
 unfolding pulseOf
-triangleAt f srf i s =
-    let dt = increment (f i) srf in
+triangleAt fi srf s =
+    let dt = increment fi srf in
     let sq = pulseOf (s .phase) c0·5 (fractOf binary32 (s .phase ⊕ c0·5)) dt in
     let tri = s .tri ⊗ c0·9995 ⊕ c4 ⊗ dt ⊗ sq in
     record { sample = tri; state = record { phase = wrapped (s .phase ⊕ dt); tri = tri } }
 
 unfoldable pub triangleFrames : (ℕ → Float) → Float → ℕ → List Float
 unfolding triangleAt
-triangleFrames f srf n = samples (triangleAt f srf) (λ r. r .sample) (λ r. r .state) (record { phase = c0; tri = c0 }) n
+triangleFrames f srf n = samples (λ i. triangleAt (f i) srf) (λ r. r .sample) (λ r. r .state) (record { phase = c0; tri = c0 }) n

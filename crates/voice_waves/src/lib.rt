@@ -1,11 +1,9 @@
 // The waves that `seq_note_signal` of render/seq.rs writes in place, one function a wave. Each
 // fills the lent slice. The pitch and the duty come through `Pitch::at`; `srf` is the rate.
-mod hiss; // hiss.rt: noise
 mod modulated; // modulated.rt: fm
 mod plain; // plain.rt: sawtooth, sine
 mod pulse; // pulse.rt: square, triangle
 
-pub use hiss::noise;
 pub use modulated::fm;
 pub use plain::sawtooth;
 pub use plain::sine;

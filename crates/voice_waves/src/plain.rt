@@ -1,7 +1,7 @@
 // Waves whose state is one phase and that need nothing but their pitch.
 ghost use mathlib.Core.Path.{_≡_};
-ghost use Prim.Native.Nat.{_+_};
 ghost use lib.ListN.{length};
+ghost use Rattle.dsl.specs.Domain.{Frames};
 ghost use Rattle.dsl.specs.Pitch.{pitchAt, reaches};
 ghost use Rattle.voice_waves.specs.Plain.{sawtoothAt, sawtoothFrames, sineAt, sineFrames};
 use dsl::Pitch;
@@ -13,11 +13,10 @@ pub struct PhaseOut {
     pub state: f32,
 }
 
-fn sawtooth_at(pitch: Pitch, lane: &[f32], srf: f32, i: usize, phase: f32) -> PhaseOut
-    requires { ⌜ reaches pitch (length (now lane)) (i + 1) ⌝ }
-    ensures { λ r. ⌜ r ≡ sawtoothAt (pitchAt pitch (now (lane .entry))) srf i phase ⌝ }
+fn sawtooth_at(fi: f32, srf: f32, phase: f32) -> PhaseOut
+    ensures { λ r. ⌜ r ≡ sawtoothAt fi srf phase ⌝ }
 {
-    let dt = osc::phase_step(pitch.at(lane, i), srf);
+    let dt = osc::phase_step(fi, srf);
     PhaseOut {
         sample: osc::saw(phase, dt),
         state: osc::wrap(phase + dt),
@@ -31,18 +30,17 @@ pub fn sawtooth(pitch: Pitch, lane: &[f32], srf: f32, out: &mut [f32])
     let mut s = 0.0f32;
     let mut i = 0usize;
     while i < out.len() {
-        let r = sawtooth_at(pitch, lane, srf, i, s);
+        let r = sawtooth_at(pitch.at(lane, i), srf, s);
         out[i] = r.sample;
         s = r.state;
         i += 1;
     }
 }
 
-fn sine_at(pitch: Pitch, lane: &[f32], srf: f32, i: usize, phase: f32) -> PhaseOut
-    requires { ⌜ reaches pitch (length (now lane)) (i + 1) ⌝ }
-    ensures { λ r. ⌜ r ≡ sineAt (pitchAt pitch (now (lane .entry))) srf i phase ⌝ }
+fn sine_at(fi: f32, srf: f32, phase: f32) -> PhaseOut
+    ensures { λ r. ⌜ r ≡ sineAt fi srf phase ⌝ }
 {
-    let dt = osc::phase_step(pitch.at(lane, i), srf);
+    let dt = osc::phase_step(fi, srf);
     PhaseOut {
         sample: osc::osc(Shape::Sine, phase),
         state: osc::wrap(phase + dt),
@@ -56,7 +54,7 @@ pub fn sine(pitch: Pitch, lane: &[f32], srf: f32, out: &mut [f32])
     let mut s = 0.0f32;
     let mut i = 0usize;
     while i < out.len() {
-        let r = sine_at(pitch, lane, srf, i, s);
+        let r = sine_at(pitch.at(lane, i), srf, s);
         out[i] = r.sample;
         s = r.state;
         i += 1;

@@ -1,9 +1,9 @@
 // Waves made of two jumps a period, each smoothed by its residual.
 ghost use mathlib.Core.Path.{_≡_};
-ghost use Prim.Native.Nat.{_+_};
 ghost use lib.ListN.{length};
 ghost use lib.Ieee.{binary32};
 ghost use Rattle.ieee.specs.Whole.{fractOf};
+ghost use Rattle.dsl.specs.Domain.{Frames};
 ghost use Rattle.dsl.specs.Pitch.{pitchAt, reaches};
 ghost use Rattle.voice_waves.specs.Pulse.{levelOf, pulseOf, squareAt, squareFrames, triangleAt, triangleFrames};
 use crate::plain::PhaseOut;
@@ -23,36 +23,21 @@ fn pulse(phase: f32, duty: f32, second: f32, dt: f32) -> f32
     level(phase, duty) + osc::poly_blep(phase, dt) - osc::poly_blep(second, dt)
 }
 
-// x less its whole part. Below 2, where a phase and less than a period more lie, that part is 0 or 1
-// by comparisons alone.
+// x less its whole part. Above 0 that part is the floor, which `osc::wrap` takes off.
 fn fract(x: f32) -> f32
     ensures { λ r. ⌜ r ≡ fractOf binary32 x ⌝ }
 {
-    if x < 1.0 {
-        if x > 0.0 {
-            return x - 0.0;
-        }
-    } else if x < 2.0 {
-        return x - 1.0;
+    if x > 0.0 {
+        return osc::wrap(x);
     }
     float::fract_f32(x)
 }
 
-fn square_at(
-    pitch: Pitch,
-    lane: &[f32],
-    duty: Pitch,
-    duties: &[f32],
-    srf: f32,
-    i: usize,
-    phase: f32,
-) -> PhaseOut
-    requires { ⌜ reaches pitch (length (now lane)) (i + 1) ⌝ }
-    requires { ⌜ reaches duty (length (now duties)) (i + 1) ⌝ }
-    ensures { λ r. ⌜ r ≡ squareAt (pitchAt pitch (now (lane .entry))) (pitchAt duty (now (duties .entry))) srf i phase ⌝ }
+fn square_at(fi: f32, di: f32, srf: f32, phase: f32) -> PhaseOut
+    ensures { λ r. ⌜ r ≡ squareAt fi di srf phase ⌝ }
 {
-    let dt = osc::phase_step(pitch.at(lane, i), srf);
-    let width = float::clamp_f32(duty.at(duties, i), 0.01, 0.99);
+    let dt = osc::phase_step(fi, srf);
+    let width = float::clamp_f32(di, 0.01, 0.99);
     PhaseOut {
         sample: pulse(phase, width, fract(phase - width + 1.0), dt),
         state: osc::wrap(phase + dt),
@@ -68,7 +53,7 @@ pub fn square(pitch: Pitch, lane: &[f32], duty: Pitch, duties: &[f32], srf: f32,
     let mut s = 0.0f32;
     let mut i = 0usize;
     while i < out.len() {
-        let r = square_at(pitch, lane, duty, duties, srf, i, s);
+        let r = square_at(pitch.at(lane, i), duty.at(duties, i), srf, s);
         out[i] = r.sample;
         s = r.state;
         i += 1;
@@ -85,11 +70,10 @@ pub struct TriangleOut {
     pub state: TriangleState,
 }
 
-fn triangle_at(pitch: Pitch, lane: &[f32], srf: f32, i: usize, s: TriangleState) -> TriangleOut
-    requires { ⌜ reaches pitch (length (now lane)) (i + 1) ⌝ }
-    ensures { λ r. ⌜ r ≡ triangleAt (pitchAt pitch (now (lane .entry))) srf i s ⌝ }
+fn triangle_at(fi: f32, srf: f32, s: TriangleState) -> TriangleOut
+    ensures { λ r. ⌜ r ≡ triangleAt fi srf s ⌝ }
 {
-    let dt = osc::phase_step(pitch.at(lane, i), srf);
+    let dt = osc::phase_step(fi, srf);
     let sq = pulse(s.phase, 0.5, fract(s.phase + 0.5), dt);
     let tri = s.tri * 0.9995 + 4.0 * dt * sq;
     TriangleOut {
@@ -112,7 +96,7 @@ pub fn triangle(pitch: Pitch, lane: &[f32], srf: f32, out: &mut [f32])
     };
     let mut i = 0usize;
     while i < out.len() {
-        let r = triangle_at(pitch, lane, srf, i, s);
+        let r = triangle_at(pitch.at(lane, i), srf, s);
         out[i] = r.sample;
         s = r.state;
         i += 1;

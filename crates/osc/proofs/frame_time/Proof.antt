@@ -15,7 +15,7 @@ cast-result c = search needs
 
 int-to-float-result : tie.Need-int-to-float-result
 unfolding inFloat
-int-to-float-result c = rw (frame-number (c .before .args .i) (c .before .pre)) (le→leb (c .before .args .i) (2 ^ 24) (c .before .pre))
+int-to-float-result c = rw (frame-number (c .before .args .i) (c .before .pre)) (le→leb (c .before .args .i) (2 ^ 24) (c .before .pre .most))
 
 returns : tie.Need-returns
 returns c = ap (λ (z : ℤ). ofInt binary32 z ⊘ c .before .args .srf) (frame-number (c .before .args .i) (c .before .pre))

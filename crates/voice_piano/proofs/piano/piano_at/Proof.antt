@@ -4,9 +4,6 @@ use Rattle.voice_piano.specs.Piano.{pianoAt}
 use Rattle.voice_piano.proofs.piano.piano_at.Statement.{statement}
 use Rattle.voice_piano.proofs.piano.piano_at.Tie as tie
 
-at-requires : tie.Need-at-requires
-at-requires c κs = search needs
-
 phase-step-requires : tie.Need-phase-step-requires
 phase-step-requires c κs = search needs
 
@@ -21,16 +18,16 @@ thump-requires c κs = search needs
 
 returns : tie.Need-returns
 unfolding pianoAt
-returns c = (
-  rw (c .before .before .before .before .thump .ensures .0, c .before .before .before .before .before .frame-time .ensures, c .before .before .before .before .before .before .before .wires-at .ensures .0),
-  rw (c .before .before .before .before .thump .ensures .1, c .before .before .before .before .before .frame-time .ensures, c .before .before .before .before .before .before .before .wires-at .ensures .1, c .before .before .before .before .before .before .before .before .before .phase-step .ensures, c .before .before .before .before .before .before .before .before .before .before .at .ensures),
-)
+returns c =
+    let d = c .before .before .before .before .thump .ensures in
+    let t = c .before .before .before .before .before .frame-time .ensures in
+    let w = c .before .before .before .before .before .before .before .wires-at .ensures in
+    (rw (d .0, t, w .0), rw (d .1, t, w .1, c .before .before .before .before .before .before .before .before .before .phase-step .ensures))
 
 pub piano-at-spec : {M : Type 1} → statement M
 piano-at-spec =
     tie.close
     (tie.spec
-    at-requires
     phase-step-requires
     wires-at-requires
     frame-time-requires

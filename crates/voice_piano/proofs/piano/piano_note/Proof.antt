@@ -1,19 +1,24 @@
 -- `voice_piano::piano::piano_note` meets its contract: each call by what it ensures. Assumes nothing.
 use Prim.Native.Nat.{_^_, _<_}
-use mathlib.Core.Path.{_∙_}
+use mathlib.Core.Path.{ap, _∙_}
 use native.Mathlib.Omega.{arith}
 use borrow.Author.Needs.{needs}
+use Rattle.rng.specs.SplitMix64.{stateAfter}
+use Rattle.counts.proofs.Thump.{thump-count}
 use Rattle.dsl.proofs.Reach.{reaches-less}
 use Rattle.voice_piano.specs.Piano.{pianoFrames}
-use Rattle.voice_piano.proofs.Pianos.{sound-end, no-frames, no-draws}
+use Rattle.voice_piano.proofs.Sound.{no-frames, no-draws}
 use Rattle.voice_piano.proofs.piano.piano_note.Statement.{statement}
 use Rattle.voice_piano.proofs.piano.piano_note.Tie as tie
 
 returns : tie.Need-returns
 returns c = (no-frames _ _ _ _ _ _ (c .if1 .taken), no-draws _ _ _ (omega arith) (c .if1 .taken))
 
+nearest-u32-to-f32-requires : tie.Need-nearest-u32-to-f32-requires
+nearest-u32-to-f32-requires c κs = tt
+
 at-requires : tie.Need-at-requires
-at-requires c κs = reaches-less (c .before .before .before .args .pitch) _ _ _ (c .before .before .before .pre .0) (omega arith)
+at-requires c κs = reaches-less (c .before .before .before .before .args .pitch) _ _ _ (c .before .before .before .before .pre .1 .0) (omega arith)
 
 hammer-blow-requires : tie.Need-hammer-blow-requires
 hammer-blow-requires c κs = search needs
@@ -36,9 +41,12 @@ same-length c = search needs
 returns-2 : tie.Need-returns-2
 unfolding pianoFrames
 returns-2 c =
-    let h : c .before .before .before .before .before .before .before .before .before .before .before .before .before .args .rng .0 < 2 ^ 64 = omega (arith, c .before .before .before .before .before .before .before .before .before .before .before .before .before .good .1 .1 .1 .1 .1 .0) in (
-      c .before .before .sound-piano .ensures .0 ∙ rw (c .before .before .before .before .string-pair .ensures, c .before .before .before .before .before .loudness .ensures, c .before .before .before .before .before .before .before .piano-partials .ensures .1, c .before .before .before .before .before .before .before .before .hammer-blow .ensures, c .before .before .before .before .before .before .before .before .before .at .ensures),
-      c .before .before .sound-piano .ensures .1 ∙ sound-end _ _ _ _ _ _ h,
+    let start = c .before .before .before .before .before .before .before .before .before .before .before .before .before .before in
+    let made = c .before .before .sound-piano .ensures in
+    let srf = c .before .before .before .before .before .before .before .before .before .before .nearest-u32-to-f32 .ensures in
+    let fits : start .args .rng .0 < 2 ^ 64 = omega (arith, start .good .1 .1 .1 .1 .1 .0) in (
+      made .0 ∙ rw (c .before .before .before .before .string-pair .ensures, c .before .before .before .before .before .loudness .ensures, c .before .before .before .before .before .before .before .piano-partials .ensures .1, c .before .before .before .before .before .before .before .before .hammer-blow .ensures, c .before .before .before .before .before .before .before .before .before .at .ensures, srf),
+      (rw srf at (made .1)) ∙ ap (stateAfter (start .args .rng .0)) (thump-count (start .args .rate) _ (start .pre .0) (start .pre .1 .1 .most)),
     )
 
 pub piano-note-spec : {M : Type 1} → statement M
@@ -46,6 +54,7 @@ piano-note-spec =
     tie.close
     (tie.spec
     returns
+    nearest-u32-to-f32-requires
     at-requires
     hammer-blow-requires
     piano-partials-requires

@@ -1,32 +1,32 @@
--- `voice_pluck::pluck::pluck_note` meets its contract: the first values of the string are lent twice. Assumes nothing.
-use mathlib.Core.Path.{sym}
-use native.Mathlib.Omega.{arith}
+-- `voice_pluck::pluck::pluck_note` meets its contract: the period of the first pitch fits the string. Assumes nothing.
+use mathlib.Core.Path.{sym, subst}
+use Prim.Native.Nat.{ℕ, _≤_, _<_}
+use native.Mathlib.Nat.{le-trans}
+use lib.Dec.{lit≤}
+use lib.ListN.{length}
 use borrow.Author.Needs.{needs}
-use lib.Seq.{length-take-le}
-use Rattle.voice_pluck.proofs.Lent.{state-drawn, lent-length, frames-rung, string-rung}
+use Rattle.dsl.proofs.Reach.{reaches-less}
+use Rattle.counts.proofs.Periods.{period-least, period-fits}
 use Rattle.voice_pluck.proofs.pluck.pluck_note.Statement.{statement}
 use Rattle.voice_pluck.proofs.pluck.pluck_note.Tie as tie
 
-slice-relend-prefix-draw-string : tie.Need-slice-relend-prefix-draw-string
-slice-relend-prefix-draw-string c = search needs
+at-requires : tie.Need-at-requires
+at-requires c κs = reaches-less (c .before .before .before .args .pitch) _ _ _ (c .before .before .before .pre .1 .0) (c .before .before .before .pre .1 .1 .0)
 
-slice-aggregate-draw-string : tie.Need-slice-aggregate-draw-string
-slice-aggregate-draw-string c = sym (length-take-le _ _ (c .before .before .before .pre .1))
+string-period-requires : tie.Need-string-period-requires
+string-period-requires c κs = tt
 
-draw-string-requires : tie.Need-draw-string-requires
-draw-string-requires c κs = search needs
+nearest-u32-to-f32-requires : tie.Need-nearest-u32-to-f32-requires
+nearest-u32-to-f32-requires c κs = tt
 
-guitar-timbre-requires : tie.Need-guitar-timbre-requires
-guitar-timbre-requires c κs = search needs
-
-slice-relend-prefix-ring-string : tie.Need-slice-relend-prefix-ring-string
-slice-relend-prefix-ring-string c = search needs
-
-slice-aggregate-ring-string : tie.Need-slice-aggregate-ring-string
-slice-aggregate-ring-string c = lent-length (c .before .before .before .before .before .before .before .before .args .string .now) _ _ (c .before .before .before .before .before .before .before .before .pre .1) (c .before .before .before .before .draw-string .ensures .0)
-
-ring-string-requires : tie.Need-ring-string-requires
-ring-string-requires c κs = (omega (arith, lent-length (c .before .before .before .before .before .before .before .before .before .args .string .now) _ _ (c .before .before .before .before .before .before .before .before .before .pre .1) (c .before .before .before .before .before .draw-string .ensures .0)), c .before .before .before .before .before .before .before .before .before .pre .2)
+sound-string-requires : tie.Need-sound-string-requires
+sound-string-requires c κs =
+    let start = c .before .before .before .before .before .before .before .before in
+    let is = sym (c .before .before .before .string-period .ensures) in
+    let rate = start .args .rate in (
+      subst (λ (n : ℕ). 0 < n) is (le-trans (lit≤ tt) (period-least rate (c .before .before .before .before .at .result))),
+      (subst (λ (n : ℕ). n ≤ length (start .args .string .now)) is (le-trans (period-fits rate (start .pre .0) (c .before .before .before .before .at .result)) (start .pre .1 .1 .1 .1)), start .pre .1 .1 .1 .0),
+    )
 
 same-length : tie.Need-same-length
 same-length c = search needs
@@ -35,23 +35,21 @@ same-length-2 : tie.Need-same-length-2
 same-length-2 c = search needs
 
 returns : tie.Need-returns
-returns c = (
-  frames-rung (c .before .before .before .before .before .before .before .before .before .before .before .before .before .before .args .string .now) _ _ (c .before .before .before .before .before .before .before .before .before .before .before .before .before .before .pre .1) (c .before .before .before .before .before .before .before .before .before .before .draw-string .ensures .0) _ _ _ _ (c .before .before .before .before .before .before .before .guitar-timbre .ensures) (c .before .before .before .before .ring-string .ensures .0),
-  string-rung (c .before .before .before .before .before .before .before .before .before .before .before .before .before .before .args .string .now) _ _ (c .before .before .before .before .before .before .before .before .before .before .before .before .before .before .pre .1) (c .before .before .before .before .before .before .before .before .before .before .draw-string .ensures .0) _ _ _ _ (c .before .before .before .before .before .before .before .guitar-timbre .ensures) (c .before .before .before .before .ring-string .ensures .1),
-  state-drawn (c .before .before .before .before .before .before .before .before .before .before .before .before .before .before .args .string .now) _ _ (c .before .before .before .before .before .before .before .before .before .before .before .before .before .before .pre .1) (c .before .before .before .before .before .before .before .before .before .before .draw-string .ensures .1),
-)
+returns c =
+    let first = c .before .before .before .before .before .before .before .before .before .at .ensures in
+    let is = c .before .before .before .before .before .before .before .before .string-period .ensures in
+    let srf = c .before .before .before .before .before .before .before .nearest-u32-to-f32 .ensures in
+    let note = c .before .before .before .before .sound-string .ensures in
+    (rw (is, first, srf) at (note .0), (rw (is, first, srf) at (note .1 .0), rw (is, first) at (note .1 .1)))
 
 pub pluck-note-spec : {M : Type 1} → statement M
 pluck-note-spec =
     tie.close
     (tie.spec
-    slice-relend-prefix-draw-string
-    slice-aggregate-draw-string
-    draw-string-requires
-    guitar-timbre-requires
-    slice-relend-prefix-ring-string
-    slice-aggregate-ring-string
-    ring-string-requires
+    at-requires
+    string-period-requires
+    nearest-u32-to-f32-requires
+    sound-string-requires
     same-length
     same-length-2
     returns)

@@ -40,7 +40,7 @@ slice-read-pluck-at-2 : tie.Need-slice-read-pluck-at-2 Inv-loop μ-loop
 slice-read-pluck-at-2 c = c .before .before .turn .ensures .1
 
 pluck-at-requires : tie.Need-pluck-at-requires Inv-loop μ-loop
-pluck-at-requires c κs = omega (arith, filled-length (c .before .before .before .before .loop .inv .0))
+pluck-at-requires c κs = record { most = omega (arith, filled-length (c .before .before .before .before .loop .inv .0), c .before .before .before .before .before .before .before .before .pre .1 .most) }
 
 mul-string : tie.Need-mul-string Inv-loop μ-loop
 mul-string c = scaled-fits (c .before .before .before .before .before .loop .spos) (length (c .before .before .before .before .before .before .before .before .before .args .string .now)) 4 (c .before .before .before .before .before .loop .inv .2) (omega (arith, c .before .before .before .before .before .before .before .before .before .good .1 .1 .1 .0))

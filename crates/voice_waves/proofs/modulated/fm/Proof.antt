@@ -11,7 +11,7 @@ use Rattle.voice_waves.proofs.modulated.fm.Statement.{statement}
 use Rattle.voice_waves.proofs.modulated.fm.Tie as tie
 
 abbrev Inv-loop : tie.InvT-loop
-Inv-loop pitch lane knobs gain srf out₀ s₀ i₀ out s i = Filled (fmAt (pitchAt pitch lane) knobs gain srf) (λ r. r .sample) (λ r. r .state) s₀ out₀ i out s
+Inv-loop pitch lane knobs gain srf out₀ s₀ i₀ out s i = Filled (λ i. fmAt (pitchAt pitch lane i) knobs gain srf i) (λ r. r .sample) (λ r. r .state) s₀ out₀ i out s
 
 abbrev μ-loop : tie.MeasureT-loop
 μ-loop pitch lane knobs gain srf out₀ s₀ i₀ out s i = length out₀ - i
@@ -19,23 +19,28 @@ abbrev μ-loop : tie.MeasureT-loop
 loop-holds : tie.Need-loop-holds Inv-loop μ-loop
 loop-holds c = filled-none
 
+at-requires : tie.Need-at-requires Inv-loop μ-loop
+at-requires c κs = reaches-less (c .before .before .before .before .args .pitch) _ _ _ (c .before .before .before .before .pre .0) (omega (arith, filled-length (c .before .loop .inv)))
+
 fm-at-requires : tie.Need-fm-at-requires Inv-loop μ-loop
-fm-at-requires c κs = (omega (arith, filled-length (c .before .loop .inv)), reaches-less (c .before .before .before .before .args .pitch) _ _ _ (c .before .before .before .before .pre .1) (omega (arith, filled-length (c .before .loop .inv))))
+fm-at-requires c κs = record { most = omega (arith, filled-length (c .before .before .loop .inv), c .before .before .before .before .before .pre .1 .most) }
 
 mul-out : tie.Need-mul-out Inv-loop μ-loop
 mul-out c = search needs
 
 slice-write-out : tie.Need-slice-write-out Inv-loop μ-loop
-slice-write-out c = omega (arith, filled-length (c .before .before .loop .inv))
+slice-write-out c = omega (arith, filled-length (c .before .before .before .loop .inv))
 
 add-i : tie.Need-add-i Inv-loop μ-loop
 add-i c = search needs
 
 loop-less : tie.Need-loop-less Inv-loop μ-loop
-loop-less c = omega (arith, filled-length (c .before .before .before .loop .inv))
+loop-less c = omega (arith, filled-length (c .before .before .before .before .loop .inv))
 
 loop-again : tie.Need-loop-again Inv-loop μ-loop
-loop-again c = filled-more (c .before .before .before .loop .inv) (omega (arith, filled-length (c .before .before .before .loop .inv))) (c .before .fm-at .ensures)
+loop-again c =
+    let inv = c .before .before .before .before .loop .inv in
+    filled-more inv (omega (arith, filled-length inv)) (rw (c .before .before .at .ensures) at (c .before .fm-at .ensures))
 
 same-length : tie.Need-same-length Inv-loop μ-loop
 same-length c = filled-length (c .before .loop .inv)
@@ -51,6 +56,7 @@ fm-spec =
     Inv-loop
     μ-loop
     loop-holds
+    at-requires
     fm-at-requires
     mul-out
     slice-write-out

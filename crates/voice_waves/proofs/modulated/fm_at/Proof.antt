@@ -4,9 +4,6 @@ use borrow.Author.Needs.{needs}
 use Rattle.voice_waves.proofs.modulated.fm_at.Statement.{statement}
 use Rattle.voice_waves.proofs.modulated.fm_at.Tie as tie
 
-at-requires : tie.Need-at-requires
-at-requires c κs = search needs
-
 phase-step-requires : tie.Need-phase-step-requires
 phase-step-requires c κs = search needs
 
@@ -27,13 +24,12 @@ wrap-requires-2 c κs = search needs
 
 returns : tie.Need-returns
 unfolding fmAt
-returns c = rw (c .wrap2 .ensures, c .before .before .before .wrap .ensures, c .before .before .before .before .before .sin2 .ensures, c .before .before .before .before .before .before .before .sin .ensures, c .before .before .before .before .before .before .before .before .before .fm-index-at .ensures, c .before .before .before .before .before .before .before .before .before .before .phase-step .ensures, c .before .before .before .before .before .before .before .before .before .before .before .at .ensures)
+returns c = rw (c .wrap2 .ensures, c .before .before .before .wrap .ensures, c .before .before .before .before .before .sin2 .ensures, c .before .before .before .before .before .before .before .sin .ensures, c .before .before .before .before .before .before .before .before .before .fm-index-at .ensures, c .before .before .before .before .before .before .before .before .before .before .phase-step .ensures)
 
 pub fm-at-spec : {M : Type 1} → statement M
 fm-at-spec =
     tie.close
     (tie.spec
-    at-requires
     phase-step-requires
     fm-index-at-requires
     sin-requires

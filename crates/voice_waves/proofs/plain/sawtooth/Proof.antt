@@ -11,7 +11,7 @@ use Rattle.voice_waves.proofs.plain.sawtooth.Statement.{statement}
 use Rattle.voice_waves.proofs.plain.sawtooth.Tie as tie
 
 abbrev Inv-loop : tie.InvT-loop
-Inv-loop pitch lane srf out₀ s₀ i₀ out s i = Filled (sawtoothAt (pitchAt pitch lane) srf) (λ r. r .sample) (λ r. r .state) s₀ out₀ i out s
+Inv-loop pitch lane srf out₀ s₀ i₀ out s i = Filled (λ i. sawtoothAt (pitchAt pitch lane i) srf) (λ r. r .sample) (λ r. r .state) s₀ out₀ i out s
 
 abbrev μ-loop : tie.MeasureT-loop
 μ-loop pitch lane srf out₀ s₀ i₀ out s i = length out₀ - i
@@ -19,23 +19,28 @@ abbrev μ-loop : tie.MeasureT-loop
 loop-holds : tie.Need-loop-holds Inv-loop μ-loop
 loop-holds c = filled-none
 
+at-requires : tie.Need-at-requires Inv-loop μ-loop
+at-requires c κs = reaches-less (c .before .before .before .before .args .pitch) _ _ _ (c .before .before .before .before .pre) (omega (arith, filled-length (c .before .loop .inv)))
+
 sawtooth-at-requires : tie.Need-sawtooth-at-requires Inv-loop μ-loop
-sawtooth-at-requires c κs = reaches-less (c .before .before .before .before .args .pitch) _ _ _ (c .before .before .before .before .pre) (omega (arith, filled-length (c .before .loop .inv)))
+sawtooth-at-requires c κs = tt
 
 mul-out : tie.Need-mul-out Inv-loop μ-loop
 mul-out c = search needs
 
 slice-write-out : tie.Need-slice-write-out Inv-loop μ-loop
-slice-write-out c = omega (arith, filled-length (c .before .before .loop .inv))
+slice-write-out c = omega (arith, filled-length (c .before .before .before .loop .inv))
 
 add-i : tie.Need-add-i Inv-loop μ-loop
 add-i c = search needs
 
 loop-less : tie.Need-loop-less Inv-loop μ-loop
-loop-less c = omega (arith, filled-length (c .before .before .loop .inv))
+loop-less c = omega (arith, filled-length (c .before .before .before .loop .inv))
 
 loop-again : tie.Need-loop-again Inv-loop μ-loop
-loop-again c = filled-more (c .before .before .loop .inv) (omega (arith, filled-length (c .before .before .loop .inv))) (c .sawtooth-at .ensures)
+loop-again c =
+    let inv = c .before .before .before .loop .inv in
+    filled-more inv (omega (arith, filled-length inv)) (rw (c .before .at .ensures) at (c .sawtooth-at .ensures))
 
 same-length : tie.Need-same-length Inv-loop μ-loop
 same-length c = filled-length (c .before .loop .inv)
@@ -51,6 +56,7 @@ sawtooth-spec =
     Inv-loop
     μ-loop
     loop-holds
+    at-requires
     sawtooth-at-requires
     mul-out
     slice-write-out

@@ -4,9 +4,6 @@ use borrow.Author.Needs.{needs}
 use Rattle.voice_waves.proofs.plain.sawtooth_at.Statement.{statement}
 use Rattle.voice_waves.proofs.plain.sawtooth_at.Tie as tie
 
-at-requires : tie.Need-at-requires
-at-requires c κs = search needs
-
 phase-step-requires : tie.Need-phase-step-requires
 phase-step-requires c κs = search needs
 
@@ -18,8 +15,8 @@ wrap-requires c κs = search needs
 
 returns : tie.Need-returns
 unfolding sawtoothAt
-returns c = rw (c .wrap .ensures, c .before .saw .ensures, c .before .before .phase-step .ensures, c .before .before .before .at .ensures)
+returns c = rw (c .wrap .ensures, c .before .saw .ensures, c .before .before .phase-step .ensures)
 
 pub sawtooth-at-spec : {M : Type 1} → statement M
 sawtooth-at-spec =
-    tie.close (tie.spec at-requires phase-step-requires saw-requires wrap-requires returns)
+    tie.close (tie.spec phase-step-requires saw-requires wrap-requires returns)

@@ -4,9 +4,6 @@ use borrow.Author.Needs.{needs}
 use Rattle.voice_waves.proofs.plain.sine_at.Statement.{statement}
 use Rattle.voice_waves.proofs.plain.sine_at.Tie as tie
 
-at-requires : tie.Need-at-requires
-at-requires c κs = search needs
-
 phase-step-requires : tie.Need-phase-step-requires
 phase-step-requires c κs = search needs
 
@@ -18,8 +15,8 @@ wrap-requires c κs = search needs
 
 returns : tie.Need-returns
 unfolding sineAt
-returns c = rw (c .wrap .ensures, c .before .osc .ensures, c .before .before .phase-step .ensures, c .before .before .before .at .ensures)
+returns c = rw (c .wrap .ensures, c .before .osc .ensures, c .before .before .phase-step .ensures)
 
 pub sine-at-spec : {M : Type 1} → statement M
 sine-at-spec =
-    tie.close (tie.spec at-requires phase-step-requires osc-requires wrap-requires returns)
+    tie.close (tie.spec phase-step-requires osc-requires wrap-requires returns)

@@ -4,14 +4,8 @@ use borrow.Author.Needs.{needs}
 use Rattle.voice_waves.proofs.pulse.square_at.Statement.{statement}
 use Rattle.voice_waves.proofs.pulse.square_at.Tie as tie
 
-at-requires : tie.Need-at-requires
-at-requires c κs = search needs
-
 phase-step-requires : tie.Need-phase-step-requires
 phase-step-requires c κs = search needs
-
-at-requires-2 : tie.Need-at-requires-2
-at-requires-2 c κs = search needs
 
 clamp-f32-requires : tie.Need-clamp-f32-requires
 clamp-f32-requires c κs = search needs
@@ -27,15 +21,13 @@ wrap-requires c κs = search needs
 
 returns : tie.Need-returns
 unfolding squareAt
-returns c = rw (c .wrap .ensures, c .before .pulse .ensures, c .before .before .fract .ensures, c .before .before .before .clamp-f32 .ensures, c .before .before .before .before .at2 .ensures, c .before .before .before .before .before .phase-step .ensures, c .before .before .before .before .before .before .at .ensures)
+returns c = rw (c .wrap .ensures, c .before .pulse .ensures, c .before .before .fract .ensures, c .before .before .before .clamp-f32 .ensures, c .before .before .before .before .phase-step .ensures)
 
 pub square-at-spec : {M : Type 1} → statement M
 square-at-spec =
     tie.close
     (tie.spec
-    at-requires
     phase-step-requires
-    at-requires-2
     clamp-f32-requires
     fract-requires
     pulse-requires

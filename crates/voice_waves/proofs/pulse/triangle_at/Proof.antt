@@ -4,9 +4,6 @@ use borrow.Author.Needs.{needs}
 use Rattle.voice_waves.proofs.pulse.triangle_at.Statement.{statement}
 use Rattle.voice_waves.proofs.pulse.triangle_at.Tie as tie
 
-at-requires : tie.Need-at-requires
-at-requires c κs = search needs
-
 phase-step-requires : tie.Need-phase-step-requires
 phase-step-requires c κs = search needs
 
@@ -21,13 +18,12 @@ wrap-requires c κs = search needs
 
 returns : tie.Need-returns
 unfolding triangleAt
-returns c = rw (c .wrap .ensures, c .before .before .before .pulse .ensures, c .before .before .before .before .fract .ensures, c .before .before .before .before .before .before .phase-step .ensures, c .before .before .before .before .before .before .before .at .ensures)
+returns c = rw (c .wrap .ensures, c .before .before .before .pulse .ensures, c .before .before .before .before .fract .ensures, c .before .before .before .before .before .before .phase-step .ensures)
 
 pub triangle-at-spec : {M : Type 1} → statement M
 triangle-at-spec =
     tie.close
     (tie.spec
-    at-requires
     phase-step-requires
     fract-requires
     pulse-requires
