@@ -26,26 +26,28 @@ pub fn sound_note(
     note_buf: &mut [f32],
     string: &mut [f32],
 ) -> Rng
-    requires { ⌜ Rate (seq .rate) ⌝ }
+    requires { ⌜ Rate (seq .timing .rate) ⌝ }
     requires { ⌜ Frames (length (now out)) ⌝ }
     requires { ⌜ 0 < place .sounded ⌝ }
     requires { ⌜ place .start + place .sounded ≤ length (now out) ⌝ }
-    requires { ⌜ place .len ≤ 16777216 ⌝ }
+    requires { ⌜ Frames (place .len) ⌝ }
     requires { ⌜ reaches (note .pitch) (length (now lane)) (place .sounded) ⌝ }
     requires { ⌜ length (now out) ≤ length (now «note_buf») ⌝ }
     requires { ⌜ 9600 ≤ length (now string) ⌝ }
-    ensures { λ r. ⌜ r .0 ≡ stateAfter (rng .0) (drawsOf (seq .voice .wave) (seq .rate) (pitchAt (note .pitch) (now (lane .entry)) 0) (place .sounded)) ⌝ }
-    ensures { λ _. ⌜ now (out .exit) ≡ mixedAt (place .start) (noteFrames (seq .rate) (seq .voice) (note .gain) (pitchAt (note .pitch) (now (lane .entry))) (λ _. seq .duty) (rng .0) (place .sounded)) (seq .env) (place .len) (seq .rate) (place .gain) (now (out .entry)) ⌝ }
+    ensures { λ r. ⌜ r .0 ≡ stateAfter (rng .0) (drawsOf (seq .voice .wave) (seq .timing .rate) (pitchAt (note .pitch) (now (lane .entry)) 0) (place .sounded)) ⌝ }
+    ensures { λ _. ⌜ now (out .exit) ≡ mixedAt (place .start) (noteFrames (seq .timing .rate) (seq .voice) (note .gain) (pitchAt (note .pitch) (now (lane .entry))) (λ _. seq .duty) (rng .0) (place .sounded)) (seq .env) (place .len) (seq .timing .rate) (place .gain) (now (out .entry)) ⌝ }
     ensures { λ _. ⌜ drop (length (now (out .entry))) (now («note_buf» .exit)) ≡ drop (length (now (out .entry))) (now («note_buf» .entry)) ⌝ }
     ensures { λ _. ⌜ drop 9600 (now (string .exit)) ≡ drop 9600 (now (string .entry)) ⌝ }
 {
+    let timing = seq.timing;
+    let rate = timing.rate;
     let pitch = note.pitch;
     let duty = Pitch::Const(seq.duty);
     let sounded = place.sounded;
     let sig = &mut note_buf[..sounded];
     let after = voice::voice_note(
         rng,
-        seq.rate,
+        rate,
         seq.voice,
         note.gain,
         pitch,
@@ -62,7 +64,7 @@ pub fn sound_note(
         sig,
         seq.env,
         place.len,
-        seq.rate,
+        rate,
         place.gain,
     );
     after

@@ -1,5 +1,7 @@
 -- `note::call::seq_note_signal` meets its contract. Assumes nothing.
-use mathlib.Core.Path.{refl, sym}
+use mathlib.Core.Path.{refl, sym, _∙_}
+use lib.ListN.{length}
+use Rattle.dsl.proofs.Reach.{reaches-own}
 use native.Mathlib.Omega.{arith}
 use Rattle.note.proofs.Calls.{accepted-note-facts, refused-note, accepted-note}
 use borrow.Author.Needs.{needs}
@@ -13,24 +15,29 @@ enum-known-verdict : tie.Need-enum-known-verdict
 enum-known-verdict c = search needs
 
 returns : tie.Need-returns
-returns c = refused-note _ (c .before .verdict .given .0 .0) (rw (c .before .verdict .given .1) at (c .before .before .before .note-call-verdict .ensures)) refl refl refl
+returns c = refused-note _ (sym (c .before .verdict .given .1) ∙ c .before .before .before .note-call-verdict .ensures) refl refl refl
 
 enum-told : tie.Need-enum-told
 enum-told c = search needs
 
 shared-slice-read-draw-count : tie.Need-shared-slice-read-draw-count
-shared-slice-read-draw-count c = (accepted-note-facts _ _ _ _ _ _ _ (sym (rw (c .before .enum-told .given .1) at (c .before .before .before .note-call-verdict .ensures)))) .some
+shared-slice-read-draw-count c = (accepted-note-facts _ (sym (sym (c .before .enum-told .given .1) ∙ c .before .before .before .note-call-verdict .ensures))) .some
 
 draw-count-requires : tie.Need-draw-count-requires
-draw-count-requires c κs = (accepted-note-facts _ _ _ _ _ _ _ (sym (rw (c .before .enum-told .given .1) at (c .before .before .before .note-call-verdict .ensures)))) .rated
+draw-count-requires c κs = tt
 
 voice-note-requires : tie.Need-voice-note-requires
 voice-note-requires c κs =
-    let f = accepted-note-facts _ _ _ _ _ _ _ (sym (rw (c .before .before .before .before .enum-told .given .1) at (c .before .before .before .before .before .before .note-call-verdict .ensures))) in
+    let b4 = c .before .before .before .before in
+    let b6 = c .before .before .before .before .before .before in
+    let b11 = c .before .before .before .before .before .before .before .before .before .before .before in
+    let f = accepted-note-facts _ (sym (sym (b4 .enum-told .given .1) ∙ b6 .note-call-verdict .ensures)) in
+    let a = b11 .args in
     let some = f .some in
     let frames = f .frames in
     let duties = f .duties in
-    (f .rated, (omega arith, (f .most, (f .stringed, (omega arith, omega arith)))))
+    (f .rated, (omega arith, (f .most, (f .stringed, (reaches-own (length (a .pitch .now)) (length (a .out .now)) (omega arith),
+        reaches-own (length (a .duty .now)) (length (a .out .now)) (omega arith))))))
 
 same-length : tie.Need-same-length
 same-length c = search needs
@@ -40,8 +47,13 @@ same-length-2 c = search needs
 
 returns-2 : tie.Need-returns-2
 returns-2 c =
-    let voice = c .before .before .before .before .voice-note in
-    accepted-note _ (sym (rw (c .before .before .before .before .before .before .before .before .before .enum-told .given .1) at (c .before .before .before .before .before .before .before .before .before .before .before .note-call-verdict .ensures))) (voice .result) (c .before .before .before .before .before .before .before .draw-count .result) (c .before .before .before .before .before .before .before .draw-count .ensures) (voice .ensures .0) refl (voice .ensures .1 .0) (voice .ensures .1 .1)
+    let b4 = c .before .before .before .before in
+    let b7 = c .before .before .before .before .before .before .before in
+    let b9 = c .before .before .before .before .before .before .before .before .before in
+    let b11 = c .before .before .before .before .before .before .before .before .before .before .before in
+    let voice = b4 .voice-note in
+    let fine = sym (b9 .enum-told .given .1) ∙ b11 .note-call-verdict .ensures in
+    accepted-note _ fine (voice .result) (b7 .draw-count .result) (b7 .draw-count .ensures) (voice .ensures .0) refl (voice .ensures .1 .0) (voice .ensures .1 .1)
 
 pub seq-note-signal-spec : {M : Type 1} → statement M
 seq-note-signal-spec =
