@@ -45,7 +45,7 @@ at-requires c κs =
     reaches-less (c .before .before .before .before .before .note .given .0 .0 .pitch) _ _ _ (fine .reached) (length-least _ _ _)
 
 draw-count-requires : tie.Need-draw-count-requires
-draw-count-requires c κs = c .before .before .before .before .before .before .before .before .before .before .before .pre .0
+draw-count-requires c κs = tt
 
 returns-3 : tie.Need-returns-3
 returns-3 c =

@@ -5,7 +5,7 @@ use native.Mathlib.Omega.{arith}
 use lib.ListN.{length, drop, length-append}
 use lib.Seq.{length-take-le, take-at}
 use Rattle.dsl.specs.Pitch.{pitchAt}
-use Rattle.voice.proofs.Kept.{kept-past}
+use Rattle.laws.proofs.Parts.{kept-past}
 use borrow.Author.Needs.{needs}
 use Rattle.score_note.proofs.sound_note.Statement.{statement}
 use Rattle.score_note.proofs.sound_note.Tie as tie
@@ -30,7 +30,7 @@ voice-note-requires c κs =
     let p = c .before .before .before .before .before .before .pre in
     let fits : a .place .sounded ≤ length (a .note-buf .now) = omega arith in
     let e = length-take-le (a .place .sounded) (a .note-buf .now) fits in
-    (p .0, (rw e (p .1 .1 .0), (omega (arith, e, p .1 .0 .most, p .1 .1 .1 .0), (p .1 .1 .1 .1 .1 .1 .1, (rw e (p .1 .1 .1 .1 .1 .0), tt)))))
+    (p .0, (rw e (p .1 .1 .0), (record { most = omega (arith, e, p .1 .0 .most, p .1 .1 .1 .0) }, (p .1 .1 .1 .1 .1 .1 .1, (rw e (p .1 .1 .1 .1 .1 .0), tt)))))
 
 slice-reshare-prefix-sig : tie.Need-slice-reshare-prefix-sig
 slice-reshare-prefix-sig c =

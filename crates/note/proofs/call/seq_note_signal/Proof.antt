@@ -22,7 +22,7 @@ shared-slice-read-draw-count : tie.Need-shared-slice-read-draw-count
 shared-slice-read-draw-count c = (accepted-note-facts _ _ _ _ _ _ _ (sym (rw (c .before .enum-told .given .1) at (c .before .before .before .note-call-verdict .ensures)))) .some
 
 draw-count-requires : tie.Need-draw-count-requires
-draw-count-requires c κs = (accepted-note-facts _ _ _ _ _ _ _ (sym (rw (c .before .enum-told .given .1) at (c .before .before .before .note-call-verdict .ensures)))) .rated
+draw-count-requires c κs = tt
 
 voice-note-requires : tie.Need-voice-note-requires
 voice-note-requires c κs =
@@ -30,7 +30,7 @@ voice-note-requires c κs =
     let some = f .some in
     let frames = f .frames in
     let duties = f .duties in
-    (f .rated, (omega arith, (f .most, (f .stringed, (omega arith, omega arith)))))
+    (f .rated, (omega arith, (record { most = f .most }, (f .stringed, (omega arith, omega arith)))))
 
 same-length : tie.Need-same-length
 same-length c = search needs
