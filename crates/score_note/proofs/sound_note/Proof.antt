@@ -5,7 +5,7 @@ use native.Mathlib.Omega.{arith}
 use lib.ListN.{length, drop, length-append}
 use lib.Seq.{length-take-le, take-at}
 use Rattle.dsl.specs.Pitch.{pitchAt}
-use Rattle.voice.proofs.Kept.{kept-past}
+use Rattle.laws.proofs.Parts.{kept-past}
 use borrow.Author.Needs.{needs}
 use Rattle.score_note.proofs.sound_note.Statement.{statement}
 use Rattle.score_note.proofs.sound_note.Tie as tie
