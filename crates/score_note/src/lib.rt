@@ -58,14 +58,6 @@ pub fn sound_note(
         string,
     );
     let sig = &note_buf[..sounded];
-    mix::mix_at(
-        out,
-        place.start,
-        sig,
-        seq.env,
-        place.len,
-        rate,
-        place.gain,
-    );
+    mix::mix_at(out, place.start, sig, seq.env, place.len, rate, place.gain);
     after
 }

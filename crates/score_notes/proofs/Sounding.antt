@@ -15,7 +15,7 @@ use Rattle.dsl.specs.declared.note.Decoded.the-variants.{Note}
 use Rattle.counts.specs.Draws.{drawsOf}
 use Rattle.voice.specs.Voice.{noteFrames}
 use Rattle.mix.specs.Mix.{mixedAt}
-use Rattle.score.specs.Score.{Score, place, noteDraws}
+use Rattle.score.specs.Score.{Score, rateIn, waveIn, noteIn, noteCount, place, noteDraws}
 use Rattle.score_contract.specs.Frames.{samplesIn, withNote}
 use Rattle.score.specs.declared.place.Place.{Place}
 use Rattle.score.proofs.Accepted.{NoteFine, sounded-reached}
@@ -29,14 +29,13 @@ module _ (s : Score) (d : Decoded) (m : SeqNote) (p : Place) (is : d ≡ Note m)
       rw is (sym (state-none g fits) ∙ ap (stateAfter g) (skipped-draws s m past), skipped-frames s m past g out)
 
   module _ (early : p .start < s .n) where
-    pub sound-asks : Frames (s .n) → NoteFine (s .seq) (s .n) (length (s .lane)) m
-        → (0 < p .sounded) × ((p .start + p .sounded ≤ s .n) × ((p .len ≤ 16777216) × reaches (m .pitch) (length (s .lane)) (p .sounded)))
+    pub sound-asks : Frames (s .n) → NoteFine s m → (0 < p .sounded) × ((p .start + p .sounded ≤ s .n) × (Frames (p .len) × reaches (m .pitch) (length (s .lane)) (p .sounded)))
     sound-asks few fine =
         let heard = lt-leb _ _ (rw at at early) in
         rw at (some-sounded s m heard, (all-within s m heard, (len-most s m few, sounded-reached s m fine)))
 
-    pub sounded-note : (g r : ℕ) (out after : List Float) → r ≡ stateAfter g (drawsOf (s .seq .voice .wave) (s .seq .rate) (pitchAt (m .pitch) (s .lane) 0) (p .sounded))
-        → after ≡ mixedAt (p .start) (noteFrames (s .seq .rate) (s .seq .voice) (m .gain) (pitchAt (m .pitch) (s .lane)) (λ _. s .seq .duty) g (p .sounded)) (s .seq .env) (p .len) (s .seq .rate) (p .gain) out
+    pub sounded-note : (g r : ℕ) (out after : List Float) → r ≡ stateAfter g (drawsOf (waveIn s) (rateIn s) (pitchAt (m .pitch) (s .lane) 0) (p .sounded))
+        → after ≡ mixedAt (p .start) (noteFrames (rateIn s) (s .seq .voice) (m .gain) (pitchAt (m .pitch) (s .lane)) (λ _. s .seq .duty) g (p .sounded)) (s .seq .env) (p .len) (rateIn s) (p .gain) out
         → (r ≡ stateAfter g (noteDraws s d)) × (after ≡ withNote s d g out)
     unfolding samplesIn
     sounded-note g r out after er eo =

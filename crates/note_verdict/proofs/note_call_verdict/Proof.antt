@@ -69,9 +69,21 @@ returns c =
     let b11 = c .before .before .before .before .before .before .before .before .before .before .before in
     let b12 = c .before .before .before .before .before .before .before .before .before .before .before .before in
     let b15 = c .before .before .before .before .before .before .before .before .before .before .before .before .before .before .before in
-    rw (c .or-else8 .ensures, c .before .or-else7 .ensures, c .before .before .or-else6 .ensures, c .before .before .before .or-else5 .ensures, b4 .all-sized2 .ensures,
-        b5 .or-else4 .ensures, b6 .all-sized .ensures, b7 .or-else3 .ensures, b8 .is-sized .ensures, b9 .or-else2 .ensures, b10 .or-else .ensures, b11 .knobs-sized .ensures,
-        b12 .domain-verdict .ensures) (turned Fine (noteCallTests (handed-in (b15))))
+    rw (
+      c .or-else8 .ensures,
+      c .before .or-else7 .ensures,
+      c .before .before .or-else6 .ensures,
+      c .before .before .before .or-else5 .ensures,
+      b4 .all-sized2 .ensures,
+      b5 .or-else4 .ensures,
+      b6 .all-sized .ensures,
+      b7 .or-else3 .ensures,
+      b8 .is-sized .ensures,
+      b9 .or-else2 .ensures,
+      b10 .or-else .ensures,
+      b11 .knobs-sized .ensures,
+      b12 .domain-verdict .ensures,
+    ) (turned Fine (noteCallTests (handed-in (b15))))
 
 pub note-call-verdict-spec : {M : Type 1} → statement M
 note-call-verdict-spec =

@@ -10,25 +10,25 @@ use borrow.Author.Needs.{needs}
 use Rattle.score_note.proofs.sound_note.Statement.{statement}
 use Rattle.score_note.proofs.sound_note.Tie as tie
 
+-- the note's frames fit the note buffer
+fits-in : (c : tie.Start) → c .args .place .sounded ≤ length (c .args .note-buf .now)
+fits-in c = omega arith
+
 slice-relend-prefix-sig : tie.Need-slice-relend-prefix-sig
-slice-relend-prefix-sig c =
-    let a = c .before .before .before .before .before .args in
-    let p = c .before .before .before .before .before .pre in
-    let fits : a .place .sounded ≤ length (a .note-buf .now) = omega arith in
-    fits
+slice-relend-prefix-sig c = fits-in (c .before .before .before .before .before)
 
 slice-aggregate-sig : tie.Need-slice-aggregate-sig
 slice-aggregate-sig c =
     let a = c .before .before .before .before .before .before .args in
     let p = c .before .before .before .before .before .before .pre in
-    let fits : a .place .sounded ≤ length (a .note-buf .now) = omega arith in
+    let fits = fits-in (c .before .before .before .before .before .before) in
     sym (length-take-le (a .place .sounded) (a .note-buf .now) fits)
 
 voice-note-requires : tie.Need-voice-note-requires
 voice-note-requires c κs =
     let a = c .before .before .before .before .before .before .before .args in
     let p = c .before .before .before .before .before .before .before .pre in
-    let fits : a .place .sounded ≤ length (a .note-buf .now) = omega arith in
+    let fits = fits-in (c .before .before .before .before .before .before .before) in
     let e = length-take-le (a .place .sounded) (a .note-buf .now) fits in
     (p .0, (rw e (p .1 .1 .0), (record { most = omega (arith, e, p .1 .0 .most, p .1 .1 .1 .0) }, (p .1 .1 .1 .1 .1 .1 .1, (rw e (p .1 .1 .1 .1 .1 .0), refl)))))
 
@@ -36,7 +36,7 @@ slice-reshare-prefix-sig : tie.Need-slice-reshare-prefix-sig
 slice-reshare-prefix-sig c =
     let a = c .before .before .before .before .before .before .before .before .before .before .before .before .args in
     let p = c .before .before .before .before .before .before .before .before .before .before .before .before .pre in
-    let fits : a .place .sounded ≤ length (a .note-buf .now) = omega arith in
+    let fits = fits-in (c .before .before .before .before .before .before .before .before .before .before .before .before) in
     let v = c .before .before .before .before .voice-note in
     let len : length (v .last .1 .1 .1 .1 .1 .1 .1 .1 .0) ≡ a .place .sounded = v .kept .1 .1 .1 .1 .1 .1 .1 .1 .0 ∙ length-take-le (a .place .sounded) (a .note-buf .now) fits in
     omega (arith, len, length-append (v .last .1 .1 .1 .1 .1 .1 .1 .1 .0) (drop (a .place .sounded) (a .note-buf .now)))
@@ -45,7 +45,7 @@ slice-aggregate-sig-2 : tie.Need-slice-aggregate-sig-2
 slice-aggregate-sig-2 c =
     let a = c .before .before .before .before .before .before .before .before .before .before .before .before .before .args in
     let p = c .before .before .before .before .before .before .before .before .before .before .before .before .before .pre in
-    let fits : a .place .sounded ≤ length (a .note-buf .now) = omega arith in
+    let fits = fits-in (c .before .before .before .before .before .before .before .before .before .before .before .before .before) in
     let v = c .before .before .before .before .before .voice-note in
     let len : length (v .last .1 .1 .1 .1 .1 .1 .1 .1 .0) ≡ a .place .sounded = v .kept .1 .1 .1 .1 .1 .1 .1 .1 .0 ∙ length-take-le (a .place .sounded) (a .note-buf .now) fits in
     sym (ap length (take-at (v .last .1 .1 .1 .1 .1 .1 .1 .1 .0) (drop (a .place .sounded) (a .note-buf .now)) (a .place .sounded) len) ∙ len)
@@ -54,7 +54,7 @@ mix-at-requires : tie.Need-mix-at-requires
 mix-at-requires c κs =
     let a = c .before .before .before .before .before .before .before .before .before .before .before .before .before .before .args in
     let p = c .before .before .before .before .before .before .before .before .before .before .before .before .before .before .pre in
-    let fits : a .place .sounded ≤ length (a .note-buf .now) = omega arith in
+    let fits = fits-in (c .before .before .before .before .before .before .before .before .before .before .before .before .before .before) in
     let v = c .before .before .before .before .before .before .voice-note in
     let len : length (v .last .1 .1 .1 .1 .1 .1 .1 .1 .0) ≡ a .place .sounded = v .kept .1 .1 .1 .1 .1 .1 .1 .1 .0 ∙ length-take-le (a .place .sounded) (a .note-buf .now) fits in
     let e = ap length (take-at (v .last .1 .1 .1 .1 .1 .1 .1 .1 .0) (drop (a .place .sounded) (a .note-buf .now)) (a .place .sounded) len) ∙ len in
@@ -72,12 +72,10 @@ same-length-3 c = search needs
 returns : tie.Need-returns
 unfolding pitchAt
 returns c =
-    let b9 = c .before .before .before .before .before .before .before .before .before in
-    let b17 = c .before .before .before .before .before .before .before .before .before .before .before .before .before .before .before .before .before in
-    let a = b17 .args in
-    let p = b17 .pre in
-    let fits : a .place .sounded ≤ length (a .note-buf .now) = omega arith in
-    let v = b9 .voice-note in
+    let a = c .before .before .before .before .before .before .before .before .before .before .before .before .before .before .before .before .before .args in
+    let p = c .before .before .before .before .before .before .before .before .before .before .before .before .before .before .before .before .before .pre in
+    let fits = fits-in (c .before .before .before .before .before .before .before .before .before .before .before .before .before .before .before .before .before) in
+    let v = c .before .before .before .before .before .before .before .before .before .voice-note in
     let len : length (v .last .1 .1 .1 .1 .1 .1 .1 .1 .0) ≡ a .place .sounded = v .kept .1 .1 .1 .1 .1 .1 .1 .1 .0 ∙ length-take-le (a .place .sounded) (a .note-buf .now) fits in
     let took = length-take-le (a .place .sounded) (a .note-buf .now) fits in
     let heard = take-at (v .last .1 .1 .1 .1 .1 .1 .1 .1 .0) (drop (a .place .sounded) (a .note-buf .now)) (a .place .sounded) len in

@@ -10,26 +10,25 @@ use Rattle.score_notes.proofs.play_notes.Statement.{statement}
 use Rattle.score_notes.proofs.play_notes.Tie as tie
 
 abbrev Inv-loop : tie.InvT-loop
-Inv-loop seq notes lane out₀ note-buf₀ string₀ count after₀ k₀ out note-buf string after k = (Playing (scoreOf seq notes lane (length out₀)) (after₀ .0) note-buf₀ string₀ k (after .0) out note-buf string) × (count ≡ length notes / 5)
+Inv-loop seq notes lane lent out₀ note-buf₀ string₀ count after₀ k₀ out note-buf string after k = (Playing (scoreOf seq notes lane lent) (after₀ .0) note-buf₀ string₀ k (after .0) out note-buf string) × (count ≡ length notes / 5)
 
 abbrev μ-loop : tie.MeasureT-loop
-μ-loop seq notes lane out₀ note-buf₀ string₀ count after₀ k₀ out note-buf string after k = count - k
+μ-loop seq notes lane lent out₀ note-buf₀ string₀ count after₀ k₀ out note-buf string after k = count - k
 
 clear-requires : tie.Need-clear-requires Inv-loop μ-loop
 clear-requires c κs = tt
 
 loop-holds : tie.Need-loop-holds Inv-loop μ-loop
 loop-holds c =
-    let a = c .before .before .before .before .before .before .before .before .before .args in
-    let v = c .before .before .clear in
-    (playing-none (omega (arith, c .before .before .before .before .before .before .before .before .before .good .0)) (v .ensures ∙ ap silence (sym (v .kept .0))) refl, refl)
+    let at = %args in
+    let v = @clear in
+    let n = v .kept .0 ∙ at .pre .1 .0 in
+    (playing-none (omega (arith, at .good .0)) (v .ensures ∙ ap silence (at .pre .1 .0)) n (at .pre .1 .1 .0) (at .pre .1 .1 .1), refl)
 
 play-note-requires : tie.Need-play-note-requires Inv-loop μ-loop
 play-note-requires c κs =
-    let h = c .before .before .before .before .loop .inv .0 in
-    let p = c .before .before .before .before .before .before .before .before .before .before .before .before .before .before .pre in
-    let z = h .room ∙ c .before .before .before .before .before .before .before .clear .kept .0 in
-    (p .0, (rw z (p .1 .0), (rw z (p .1 .1 .0), (omega arith, (omega (arith, z, h .buffered, p .1 .1 .1 .0), omega (arith, h .stringed, p .1 .1 .1 .1))))))
+    let h = @loop .inv .0 in
+    (@pre .0, (omega arith, (h .room, (h .buffered, h .stringed))))
 
 next-fits : (c : tie.In-loop Inv-loop μ-loop) → c .before .loop .k + 1 < 2 ^ 64
 next-fits c = omega arith
@@ -42,24 +41,24 @@ loop-less c = omega arith
 
 loop-again : tie.Need-loop-again Inv-loop μ-loop
 loop-again c =
-    let h = c .before .before .before .before .before .before .before .before .before .before .before .loop .inv .0 in
-    let v = c .before .before .before .before .before .before .play-note in
-    (playing-more h (omega arith) (rw (h .room) at (v .ensures .0)) (rw (h .room) at (v .ensures .1 .0)) (v .kept .1 .1 .1 .1 .1 .0) (v .kept .1 .1 .1 .1 .1 .1 .0) (v .kept .1 .1 .1 .1 .1 .1 .1 .0) (rw (h .room) at (v .ensures .1 .1 .0)) (v .ensures .1 .1 .1), refl)
+    let h = @loop .inv .0 in
+    let v = @play-note in
+    let k = v .kept .1 .1 .1 .1 .1 .1 in
+    (playing-more h (omega arith) (v .ensures .0) (v .ensures .1 .0) (k .0) (k .1 .0) (k .1 .1 .0) (v .ensures .1 .1 .0) (v .ensures .1 .1 .1), refl)
 
 same-length : tie.Need-same-length Inv-loop μ-loop
-same-length c = c .before .loop .inv .0 .room ∙ c .before .before .before .before .clear .kept .0
+same-length c = @loop .inv .0 .room ∙ sym (@pre .1 .0)
 
 same-length-2 : tie.Need-same-length-2 Inv-loop μ-loop
-same-length-2 c = c .before .loop .inv .0 .buffered
+same-length-2 c = @loop .inv .0 .buffered ∙ sym (@pre .1 .1 .0)
 
 same-length-3 : tie.Need-same-length-3 Inv-loop μ-loop
-same-length-3 c = c .before .loop .inv .0 .stringed
+same-length-3 c = @loop .inv .0 .stringed ∙ sym (@pre .1 .1 .1)
 
 returns : tie.Need-returns Inv-loop μ-loop
 returns c =
-    let h = c .before .loop .inv .0 in
-    let z = c .before .before .before .before .clear .kept .0 in
-    (rw z at (playing-state h (omega arith)), (rw z at (playing-frames h (omega arith)), (rw z at (h .buffer-kept), h .string-kept)))
+    let h = @loop .inv .0 in
+    (playing-state h (omega arith), (playing-frames h (omega arith), (h .buffer-kept, h .string-kept)))
 
 pub play-notes-spec : {M : Type 1} → statement M
 play-notes-spec =

@@ -35,9 +35,22 @@ voice-note-requires c κs =
     let a = b11 .args in
     let some = f .some in
     let frames = f .frames in
-    let duties = f .duties in
-    (f .rated, (omega arith, (f .most, (f .stringed, (reaches-own (length (a .pitch .now)) (length (a .out .now)) (omega arith),
-        reaches-own (length (a .duty .now)) (length (a .out .now)) (omega arith))))))
+    let duties = f .duties in (
+      f .rated,
+      (
+        omega arith,
+        (
+          f .most,
+          (
+            f .stringed,
+            (
+              reaches-own (length (a .pitch .now)) (length (a .out .now)) (omega arith),
+              reaches-own (length (a .duty .now)) (length (a .out .now)) (omega arith),
+            ),
+          ),
+        ),
+      ),
+    )
 
 same-length : tie.Need-same-length
 same-length c = search needs
