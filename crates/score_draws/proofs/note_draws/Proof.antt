@@ -2,7 +2,7 @@
 use mathlib.Core.Path.{sym, _∙_}
 use borrow.Author.Tests.{lt-leb}
 use Rattle.score.specs.Score.{Score, scoreOf, noteDraws}
-use Rattle.score.proofs.Accepted.{accepted-score, place-asks, first-reached}
+use Rattle.score.proofs.Accepted.{place-asks, first-reached}
 use Rattle.score.proofs.Notes.{skipped-draws, sounded-draws}
 use borrow.Author.Needs.{needs}
 use Rattle.score_draws.proofs.note_draws.Statement.{statement}
@@ -46,7 +46,7 @@ at-requires c κs =
     first-reached (score-in at) (at .pre .0) _ (at .pre .1) _ (sym (b9 .note-at .ensures) ∙ b7 .note .given .1)
 
 draw-count-requires : tie.Need-draw-count-requires
-draw-count-requires c κs = accepted-score _ (c .before .before .before .before .before .before .before .before .before .before .before .before .before .pre .0) .fit .rate
+draw-count-requires c κs = tt
 
 returns-3 : tie.Need-returns-3
 returns-3 c =

@@ -78,9 +78,13 @@ returns c =
     let v = c .before .before .before .before .before .before .before .before .before .voice-note in
     let len : length (v .last .1 .1 .1 .1 .1 .1 .1 .1 .0) ≡ a .place .sounded = v .kept .1 .1 .1 .1 .1 .1 .1 .1 .0 ∙ length-take-le (a .place .sounded) (a .note-buf .now) fits in
     let took = length-take-le (a .place .sounded) (a .note-buf .now) fits in
-    let heard = take-at (v .last .1 .1 .1 .1 .1 .1 .1 .1 .0) (drop (a .place .sounded) (a .note-buf .now)) (a .place .sounded) len in
-    (rw took at (v .ensures .0), (c .before .before .mix-at .ensures ∙ rw (heard, v .ensures .1 .0, took),
-        (kept-past (length (a .out .now)) (v .last .1 .1 .1 .1 .1 .1 .1 .1 .0) (a .note-buf .now) (a .place .sounded) len (omega (arith, p .1 .1 .1 .0)), v .ensures .1 .1)))
+    let heard = take-at (v .last .1 .1 .1 .1 .1 .1 .1 .1 .0) (drop (a .place .sounded) (a .note-buf .now)) (a .place .sounded) len in (
+      rw took at (v .ensures .0),
+      (
+        c .before .before .mix-at .ensures ∙ rw (heard, v .ensures .1 .0, took),
+        (kept-past (length (a .out .now)) (v .last .1 .1 .1 .1 .1 .1 .1 .1 .0) (a .note-buf .now) (a .place .sounded) len (omega (arith, p .1 .1 .1 .0)), v .ensures .1 .1),
+      ),
+    )
 
 pub sound-note-spec : {M : Type 1} → statement M
 sound-note-spec =

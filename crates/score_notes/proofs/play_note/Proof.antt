@@ -23,30 +23,30 @@ enum-told c = search needs
 
 returns : tie.Need-returns
 returns c =
-    let at = %args in
+    let at = c .before .before .before .before .before .before .before .before in
     let s = score-in at in
     let none = accepted-score s (at .pre .0) .clean _ (at .pre .1 .0) in
-    absurd (no-note s (record { other = λ o f. refl }) (ap (noteRefusal s) (sym (@enum-told .given .1) ∙ @note-at .ensures) ∙ none))
+    absurd (no-note s (record { other = λ o f. refl }) (ap (noteRefusal s) (sym (c .enum-told .given .1) ∙ c .before .before .note-at .ensures) ∙ none))
 
 place-note-requires : tie.Need-place-note-requires
 place-note-requires c κs =
-    let at = %args in
-    place-asks (score-in at) (at .pre .0) _ (at .pre .1 .0) _ (sym (@note-at .ensures) ∙ @note .given .1)
+    let at = c .before .before .before .before .before .before .before .before .before in
+    place-asks (score-in at) (at .pre .0) _ (at .pre .1 .0) _ (sym (c .before .before .before .note-at .ensures) ∙ c .before .note .given .1)
 
 returns-2 : tie.Need-returns-2
 returns-2 c =
-    let at = %args in
-    let is = sym (@note-at .ensures) ∙ @note .given .1 in
-    let r = skipped-note (score-in at) _ _ _ is (@place-note .ensures) (@if1 .taken) (at .args .rng .0) (omega (arith, at .good .0)) (at .args .out .now) in
+    let at = c .before .before .before .before .before .before .before .before .before .before .before .before in
+    let is = sym (c .before .before .before .before .before .before .note-at .ensures) ∙ c .before .before .before .before .note .given .1 in
+    let r = skipped-note (score-in at) _ _ _ is (c .before .before .place-note .ensures) (c .if1 .taken) (at .args .rng .0) (omega (arith, at .good .0)) (at .args .out .now) in
     (r .0, (r .1, (refl, refl)))
 
 sound-note-requires : tie.Need-sound-note-requires
 sound-note-requires c κs =
-    let at = %args in
+    let at = c .before .before .before .before .before .before .before .before .before .before .before .before .before .before .before in
     let pre = at .pre in
     let fit = accepted-score (score-in at) (pre .0) .fit in
-    let is = sym (@note-at .ensures) ∙ @note .given .1 in
-    let q = sound-asks (score-in at) _ _ _ is (@place-note .ensures) (@if1 .left) (fit .frames) (fine-in (score-in at) (pre .0) _ (pre .1 .0) _ is) in
+    let is = sym (c .before .before .before .before .before .before .before .before .before .note-at .ensures) ∙ c .before .before .before .before .before .before .before .note .given .1 in
+    let q = sound-asks (score-in at) _ _ _ is (c .before .before .before .before .before .place-note .ensures) (c .before .before .before .if1 .left) (fit .frames) (fine-in (score-in at) (pre .0) _ (pre .1 .0) _ is) in
     let n = pre .1 .1 .0 in
     let room = pre .1 .1 .1 .0 in
     let string = pre .1 .1 .1 .1 in
@@ -63,10 +63,10 @@ same-length-3 c = search needs
 
 returns-3 : tie.Need-returns-3
 returns-3 c =
-    let at = %args in
-    let is = sym (@note-at .ensures) ∙ @note .given .1 in
-    let v = @sound-note .ensures in
-    let r = sounded-note (score-in at) _ _ _ is (@place-note .ensures) (@if1 .left) _ _ _ _ (v .0) (v .1 .0) in
+    let at = c .before .before .before .before .before .before .before .before .before .before .before .before .before .before .before .before .before .before .before .before .before .before in
+    let is = sym (c .before .before .before .before .before .before .before .before .before .before .before .before .before .before .before .before .note-at .ensures) ∙ c .before .before .before .before .before .before .before .before .before .before .before .before .before .before .note .given .1 in
+    let v = c .before .before .before .before .before .before .sound-note .ensures in
+    let r = sounded-note (score-in at) _ _ _ is (c .before .before .before .before .before .before .before .before .before .before .before .before .place-note .ensures) (c .before .before .before .before .before .before .before .before .before .before .if1 .left) _ _ _ _ (v .0) (v .1 .0) in
     (r .0, (r .1, (rw (at .pre .1 .1 .0) at (v .1 .1 .0), v .1 .1 .1)))
 
 pub play-note-spec : {M : Type 1} → statement M

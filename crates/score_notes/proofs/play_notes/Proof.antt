@@ -20,15 +20,15 @@ clear-requires c κs = tt
 
 loop-holds : tie.Need-loop-holds Inv-loop μ-loop
 loop-holds c =
-    let at = %args in
-    let v = @clear in
+    let at = c .before .before .before .before .before .before .before .before .before in
+    let v = c .before .before .clear in
     let n = v .kept .0 ∙ at .pre .1 .0 in
     (playing-none (omega (arith, at .good .0)) (v .ensures ∙ ap silence (at .pre .1 .0)) n (at .pre .1 .1 .0) (at .pre .1 .1 .1), refl)
 
 play-note-requires : tie.Need-play-note-requires Inv-loop μ-loop
 play-note-requires c κs =
-    let h = @loop .inv .0 in
-    (@pre .0, (omega arith, (h .room, (h .buffered, h .stringed))))
+    let h = c .before .before .before .before .loop .inv .0 in
+    (c .before .before .before .before .before .before .before .before .before .before .before .before .before .before .pre .0, (omega arith, (h .room, (h .buffered, h .stringed))))
 
 next-fits : (c : tie.In-loop Inv-loop μ-loop) → c .before .loop .k + 1 < 2 ^ 64
 next-fits c = omega arith
@@ -41,23 +41,23 @@ loop-less c = omega arith
 
 loop-again : tie.Need-loop-again Inv-loop μ-loop
 loop-again c =
-    let h = @loop .inv .0 in
-    let v = @play-note in
+    let h = c .before .before .before .before .before .before .before .before .before .before .before .loop .inv .0 in
+    let v = c .before .before .before .before .before .before .play-note in
     let k = v .kept .1 .1 .1 .1 .1 .1 in
     (playing-more h (omega arith) (v .ensures .0) (v .ensures .1 .0) (k .0) (k .1 .0) (k .1 .1 .0) (v .ensures .1 .1 .0) (v .ensures .1 .1 .1), refl)
 
 same-length : tie.Need-same-length Inv-loop μ-loop
-same-length c = @loop .inv .0 .room ∙ sym (@pre .1 .0)
+same-length c = c .before .loop .inv .0 .room ∙ sym (c .before .before .before .before .before .before .before .before .before .before .before .pre .1 .0)
 
 same-length-2 : tie.Need-same-length-2 Inv-loop μ-loop
-same-length-2 c = @loop .inv .0 .buffered ∙ sym (@pre .1 .1 .0)
+same-length-2 c = c .before .loop .inv .0 .buffered ∙ sym (c .before .before .before .before .before .before .before .before .before .before .before .pre .1 .1 .0)
 
 same-length-3 : tie.Need-same-length-3 Inv-loop μ-loop
-same-length-3 c = @loop .inv .0 .stringed ∙ sym (@pre .1 .1 .1)
+same-length-3 c = c .before .loop .inv .0 .stringed ∙ sym (c .before .before .before .before .before .before .before .before .before .before .before .pre .1 .1 .1)
 
 returns : tie.Need-returns Inv-loop μ-loop
 returns c =
-    let h = @loop .inv .0 in
+    let h = c .before .loop .inv .0 in
     (playing-state h (omega arith), (playing-frames h (omega arith), (h .buffer-kept, h .string-kept)))
 
 pub play-notes-spec : {M : Type 1} → statement M
