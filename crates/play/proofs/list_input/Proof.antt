@@ -6,10 +6,6 @@ use borrow.Author.Needs.{needs}
 use Rattle.play.proofs.Listed.{input-listed, written-counts}
 use Rattle.play.proofs.list_input.Statement.{statement}
 use Rattle.play.proofs.list_input.Tie as tie
-use Rattle.play.proofs.list_input.Reads as reads
-use Rattle.play.proofs.list_input.Lts as lts
-use Rattle.io.proofs.read_full.Reads as read-full-reads
-use Rattle.play.proofs.put_listing.Reads as put-listing-reads
 
 read-full-requires : tie.Need-read-full-requires
 read-full-requires c κs = search needs

@@ -3,9 +3,6 @@ use borrow.Author.Needs.{needs}
 use Rattle.text.proofs.Most.{reply-whole, reply-not-short}
 use Rattle.play.proofs.put_listing.Statement.{statement}
 use Rattle.play.proofs.put_listing.Tie as tie
-use Rattle.play.proofs.put_listing.Reads as reads
-use Rattle.play.proofs.put_listing.Lts as lts
-use Rattle.text.proofs.play_text.Reads as play-text-reads
 
 play-text-requires : tie.Need-play-text-requires
 play-text-requires c κs = search needs
