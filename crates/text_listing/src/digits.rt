@@ -17,7 +17,7 @@ fn digit_for(v: u64) -> u8
     (v + 87) as u8
 }
 
-pub fn put_byte(out: &mut [u8], at: usize, b: u8) -> usize
+pub(crate) fn put_byte(out: &mut [u8], at: usize, b: u8) -> usize
     requires { ⌜ Room (b ∷ []) at (now out) ⌝ }
     ensures { λ r. ⌜ Printed (b ∷ []) at (now (out .entry)) r (now (out .exit)) ⌝ }
 {
@@ -50,7 +50,7 @@ fn put_decimal(out: &mut [u8], at: usize, v: u64) -> usize
 }
 
 // A tab and hexadecimal digits.
-pub fn put_hex_field(out: &mut [u8], at: usize, count: usize, v: u64) -> usize
+pub(crate) fn put_hex_field(out: &mut [u8], at: usize, count: usize, v: u64) -> usize
     requires { ⌜ Room (tabbed (hexText count v)) at (now out) ⌝ }
     ensures { λ r. ⌜ Printed (tabbed (hexText count v)) at (now (out .entry)) r (now (out .exit)) ⌝ }
 {
@@ -59,7 +59,7 @@ pub fn put_hex_field(out: &mut [u8], at: usize, count: usize, v: u64) -> usize
 }
 
 // A tab and a decimal number.
-pub fn put_decimal_field(out: &mut [u8], at: usize, v: u64) -> usize
+pub(crate) fn put_decimal_field(out: &mut [u8], at: usize, v: u64) -> usize
     requires { ⌜ Room (tabbed (decimalText v)) at (now out) ⌝ }
     ensures { λ r. ⌜ Printed (tabbed (decimalText v)) at (now (out .entry)) r (now (out .exit)) ⌝ }
 {

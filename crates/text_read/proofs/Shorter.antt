@@ -96,7 +96,7 @@ line-shorter letter ks s e =
     let m = ending-shorter ks (p .rest) (p .second) in
     omega arith
 
-or-else : {P : Type 0} {A : Type 0} (x y : Read A) {v : A} {r : List ℕ} → (x ≡ got v r → P) → (y ≡ got v r → P) → orElse x y ≡ got v r → P
+pub or-else : {P : Type 0} {A : Type 0} (x y : Read A) {v : A} {r : List ℕ} → (x ≡ got v r → P) → (y ≡ got v r → P) → orElse x y ≡ got v r → P
 unfolding orElse
 or-else (got u s) y f g e = f e
 or-else broken y f g e = g e

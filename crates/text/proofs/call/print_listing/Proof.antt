@@ -90,7 +90,7 @@ returns-5 : tie.Need-returns-5
 returns-5 c =
     let room : c .before .before .before .before .before .before .before .before .before .before .before .before .score .given .0 .0 .count * 5 ≤ length (c .before .before .before .before .before .before .before .before .before .before .before .before .before .before .before .before .before .words-buffer .result) = omega (arith, c .before .before .before .before .before .before .before .before .before .before .before .before .before .before .before .before .before .words-buffer .ensures, c .before .before .before .before .before .before .before .if3 .left) in
     let said = (parsed-score (c .before .before .before .before .before .before .before .before .before .before .before .before .before .before .before .read-score .ensures) (c .before .before .before .before .before .before .before .before .before .before .before .before .score .given .1)) in
-    printed-as (listing-played _ (c .before .before .before .before .before .before .before .before .before .before .before .before .before .before .before .before .before .before .if1 .left) said (c .before .before .before .before .before .before .before .before .before .if2 .left) (c .before .before .before .before .before .before .before .if3 .left) _ (said-words said room)) (c .before .before .play-score .ensures)
+    printed-as (listing-played _ (c .before .before .before .before .before .before .before .before .before .before .before .before .before .before .before .before .before .before .if1 .left) said (c .before .before .before .before .before .before .before .before .before .if2 .left) (c .before .before .before .before .before .before .before .if3 .left) _ (said-words _ said room)) (c .before .before .play-score .ensures)
 
 pub print-listing-spec : {M : Type 1} → statement M
 print-listing-spec =
