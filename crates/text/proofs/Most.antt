@@ -126,7 +126,11 @@ module _ (seed d : ℕ) (c : Call) where
       omega arith
 
 -- ---- what is printed of a call: a number m that refuses it, or D draws and its frames, after which the draw is x
-shown-most : (m D d x : ℕ) (frames : List Float) (state : ℕ → ℕ) → m ≤ 22 → (m ≡ 0 → x < 2 ^ 64) → length frames ≤ 2048 → length (shownAt (state (newDraw (unless m (accepted D frames)) d x)) (newDraw (unless m (accepted D frames)) d x) (unless m (accepted D frames))) ≤ 32808
+abbrev shownAfter : ℕ → ℕ → (ℕ → ℕ) → Result → List ℕ
+shownAfter d x state r = shownAt (state (newDraw r d x)) (newDraw r d x) r
+
+shown-most : (m D d x : ℕ) (frames : List Float) (state : ℕ → ℕ) → m ≤ 22 → (m ≡ 0 → x < 2 ^ 64) → length frames ≤ 2048
+    → length (shownAfter d x state (unless m (accepted D frames))) ≤ 32808
 shown-most zero D d x frames state h f l = let k = listing-length (state x) x frames (f refl) l in omega arith
 shown-most (suc m) D d x frames state h f l = line-most (suc m) h
 

@@ -35,7 +35,8 @@ module _ (vs kinds s : List ℕ) (i at : ℕ) {r : Number} where
   fields-bad h told e = rw (head kinds i h, ← (rw told at e)) (before-broken vs)
 
 module _ (vs kinds s : List ℕ) (i at : ℕ) {v next : ℕ} {r : Number} where
-  pub fields-more : i < length kinds → i < length vs → r ≡ At v next → numberIn s r ≡ field (getD kinds i 0) (drop at s) → before (take (i + 1) (set vs i v)) (fields (drop (i + 1) kinds) (drop next s)) ≡ before (take i vs) (fields (drop i kinds) (drop at s))
+  pub fields-more : i < length kinds → i < length vs → r ≡ At v next → numberIn s r ≡ field (getD kinds i 0) (drop at s)
+      → before (take (i + 1) (set vs i v)) (fields (drop (i + 1) kinds) (drop next s)) ≡ before (take i vs) (fields (drop i kinds) (drop at s))
   unfolding fields
   fields-more h l told e =
       let one : take (i + 1) (set vs i v) ≡ take i vs ++ (v ∷ []) = rw add-one (take-suc-set vs i v l) in

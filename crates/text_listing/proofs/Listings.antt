@@ -87,7 +87,8 @@ module _ {frames : List Float} {start : ℕ} {out₀ : List ℕ} {i at : ℕ} {o
     pub frame-room : Room (lineF i bits) at out
     frame-room = room-next (frameLines i frames) (lineF i bits) both-room (h .is)
 
-    pub listed-more : {next : ℕ} {out₁ : List ℕ} → bits ≡ frameBits (getD frames i nan) → length out₁ ≡ length out → Printed (lineF i bits) at out next out₁ → Listed frames start out₀ (i + 1) next out₁
+    pub listed-more : {next : ℕ} {out₁ : List ℕ} → bits ≡ frameBits (getD frames i nan) → length out₁ ≡ length out
+        → Printed (lineF i bits) at out next out₁ → Listed frames start out₀ (i + 1) next out₁
     unfolding frameLines
     listed-more e s p =
         record {

@@ -76,7 +76,8 @@ module _ (a b c : List ℕ) {at : ℕ} {out : List ℕ} (h : Room (a ++ (b ++ c)
     pub three : {k : ℕ} {out₃ : List ℕ} → Printed c m out₂ k out₃ → Printed (a ++ (b ++ c)) at out k out₃
     three r = printed-both a (b ++ c) h p (printed-both b c (room-next a (b ++ c) h p) q r)
 
-module _ (a b c d : List ℕ) {at : ℕ} {out : List ℕ} (h : Room (a ++ (b ++ (c ++ d))) at out) {n : ℕ} {out₁ : List ℕ} (p : Printed a at out n out₁) {m : ℕ} {out₂ : List ℕ} (q : Printed b n out₁ m out₂) where
+module _ (a b c d : List ℕ) {at : ℕ} {out : List ℕ} (h : Room (a ++ (b ++ (c ++ d))) at out) {n : ℕ} {out₁ : List ℕ} (p : Printed a at out n out₁)
+    {m : ℕ} {out₂ : List ℕ} (q : Printed b n out₁ m out₂) where
   pub part-room : Room c m out₂
   part-room = room-first c d (third-room a b (c ++ d) h p q)
 

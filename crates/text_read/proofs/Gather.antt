@@ -137,7 +137,8 @@ module _ {s : List ℕ} {start : ℕ} {words₀ words : List ℕ} {at n : ℕ} (
           let most = before-most (more .ws) (notesOf (drop next s)) (more .ahead ∙ g .fits .is) in
           omega (arith, more .five, g .fits .room, g .same)
 
-      pub storing-more : {words₁ : List ℕ} → length words₁ ≡ length words → words₁ ≡ take (n * 5) words ++ ((a ∷ b ∷ 0 ∷ p ∷ q ∷ []) ++ drop (n * 5 + 5) words) → Storing s start words₀ words₁ next (n + 1)
+      pub storing-more : {words₁ : List ℕ} → length words₁ ≡ length words
+          → words₁ ≡ take (n * 5) words ++ ((a ∷ b ∷ 0 ∷ p ∷ q ∷ []) ++ drop (n * 5 + 5) words) → Storing s start words₀ words₁ next (n + 1)
       unfolding gathered-more
       storing-more {words₁} m f =
           let v = a ∷ b ∷ 0 ∷ p ∷ q ∷ [] in

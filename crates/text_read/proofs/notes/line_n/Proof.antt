@@ -65,7 +65,8 @@ returns-2 c =
     let b7 = b4 .before .before .before in
     let b10 = b7 .before .before .before in
     let b14 = b10 .before .before .before .before in
-    note-short (b4 .line2 .last .1 .1 .1 .1 .0) _ {rest = drop (c .before .last .given .0 .0) (b14 .args .s .now)} (rw (b7 .enum-told .given .1) at (b10 .line .ensures .0)) (rw (c .before .last .given .1) at (b4 .line2 .ensures .0))
+    let none = rw (b7 .enum-told .given .1) at (b10 .line .ensures .0) in
+    note-short (b4 .line2 .last .1 .1 .1 .1 .0) _ {rest = drop (c .before .last .given .0 .0) (b14 .args .s .now)} none (rw (c .before .last .given .1) at (b4 .line2 .ensures .0))
 
 enum-told-2 : tie.Need-enum-told-2
 enum-told-2 c = search needs
