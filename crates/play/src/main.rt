@@ -17,7 +17,7 @@ fn score_buffer() -> [u8; 65537]
     [0u8; 65537]
 }
 
-// As long as the longest listing.
+// As long as the longest listing (the law `listing-most` of text).
 fn reply_buffer() -> [u8; 32808]
     ensures { λ r. ⌜ 32808 ≡ length r ⌝ }
 {

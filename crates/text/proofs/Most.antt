@@ -1,8 +1,8 @@
 -- Use where a reply is to be long enough for every listing: `listing-most`. A listing is longest where all 2,048 frames are printed, each with 16 bytes at most, after a G line
 -- of 40 bytes at most. Assumes nothing.
 use Prim.Native.Nat.{ℕ, zero, suc, _+_, _-_, _^_, _≤_, _<_}
-use mathlib.Core.Path.{_≡_, refl, sym, ap, _∙_}
-use mathlib.Core.List.{List, [], _∷_, _++_}
+use mathlib.Core.Path.{_≡_, refl, _∙_}
+use mathlib.Core.List.{List, _++_}
 use mathlib.Core.Bool.{Bool, true, false, cond}
 use native.Mathlib.Omega.{arith}
 use borrow.Author.Tests.{le-ltb, ltb-false, leb-true}
@@ -13,9 +13,8 @@ use Rattle.rng.specs.SplitMix64.{stateAfter}
 use Rattle.dsl.specs.declared.note.Decoded.{Decoded}
 use Rattle.dsl.specs.declared.note.Decoded.the-variants.{Note, Kind}
 use Rattle.groove.specs.Length.{skipped}
-use Rattle.mix.specs.Mix.{mixedAt}
 use Rattle.mix.proofs.Mixing.{silence-length, mixed-length}
-use Rattle.outcome.specs.Answer.{Result, refused, accepted, unless}
+use Rattle.outcome.specs.Answer.{Result, accepted, unless}
 use Rattle.outcome.proofs.Refusing.{cond-zero}
 use Rattle.score.specs.Score.{Score, noteAt, count, place, scoreDraws}
 use Rattle.score.specs.Refusals.{numbersRefusal, voiceRefusal, noteRefusal, orElse, firstFrom, refusalOf, notesRefusal, lentRefusal, listsRefusal, refusal, refusalAt}
@@ -24,16 +23,14 @@ use Rattle.score.proofs.Accepted.{or-zero}
 use Rattle.tally.specs.Alone.{aloneOf}
 use Rattle.tally.specs.Tally.{Call, Taken, framesIn, taken, takenAfter, allTaken, tallied, newDraw, tally}
 use Rattle.tally.proofs.AllCalls.{one-draw}
-use Rattle.text_digits.specs.Read.{Read, got, broken}
-use Rattle.text_listing.specs.Lines.{lineR, listingOf}
+use Rattle.text_listing.specs.Lines.{printedR}
 use Rattle.text_listing.proofs.Listings.{refusal-length, listing-length}
-use Rattle.text_read.specs.Notes.{countOf}
-use Rattle.text_read.specs.Text.{Text, textOf}
-use Rattle.text.specs.Reply.{short, replyOf, bytesAfter, Replied}
+use Rattle.text_read.specs.Text.{textOf}
+use Rattle.text.specs.Reply.{tooShort, replyOf, bytesAfter, Replied}
 use Rattle.text.specs.declared.call.Reply.{Reply}
 use Rattle.text.specs.declared.call.Reply.the-variants.{Listing, Short}
 use Rattle.text.proofs.Refused.{unrefused-read}
-use Rattle.text.specs.Listing.{callOf, shownAt, played, formBroken, large, textRefusal, playedRead, unlessRefused, listing}
+use Rattle.text.specs.Listing.{callOf, shownAt, played, textRefusal, playedRead, unlessRefused, listing}
 
 -- ---- no refusal has a number above 22: a number by tests is as small as each of its numbers
 cond-leb : (t : Bool) (x y m : ℕ) → leb (cond t x y) m ≡ cond t (leb x m) (leb y m)
@@ -94,7 +91,7 @@ text-most : (text : List ℕ) → textRefusal text ≤ 22
 unfolding textRefusal
 text-most text = leb-true (textRefusal text) 22 (simp (cond-leb, cond-same))
 
-line-most : (n : ℕ) → n ≤ 22 → length (lineR n) ≤ 32808
+line-most : (n : ℕ) → n ≤ 22 → length (printedR n) ≤ 32808
 line-most n h = let l = refusal-length n (omega arith) in omega arith
 
 -- ---- an accepted call: n frames, and a draw that fits 64 bits
@@ -159,7 +156,7 @@ listing-most text =
 
 -- a reply of 32,808 bytes or more is never short: it holds the listing, whatever the text
 module _ (text reply₀ : List ℕ) (room : 32808 ≤ length reply₀) where
-  never-short : short text reply₀ ≡ false
+  never-short : tooShort text reply₀ ≡ false
   never-short = let l = listing-most text in le-ltb (length reply₀) (length (listing text)) (omega arith)
 
   pub always-listed : replyOf text reply₀ ≡ Listing (length (listing text))

@@ -12,17 +12,17 @@ use Rattle.laws.proofs.If.{if-true}
 use Rattle.outcome.proofs.Refusing.{cond-zero}
 use Rattle.tally.specs.Tally.{tally}
 use Rattle.text_digits.specs.Read.{Read, got, broken}
-use Rattle.text_listing.specs.Lines.{lineR}
+use Rattle.text_listing.specs.Lines.{printedR}
 use Rattle.text_read.specs.Notes.{countOf}
 use Rattle.text_read.specs.Text.{Text, textOf}
-use Rattle.text.specs.Listing.{callOf, shown, played, formBroken, large, textRefusal, playedRead, unlessRefused, listing}
+use Rattle.text.specs.Listing.{callOf, shown, played, formBroken, tooLarge, textRefusal, playedRead, unlessRefused, listing}
 
 -- "16 input above 65,536 bytes", before all others
 pub refusal-long : (text : List ℕ) → 65536 < length text → 16 ≡ textRefusal text
 unfolding textRefusal
 refusal-long text h = if-true _ (lt-ltb _ _ h) refl
 
-pub refused-line : (text : List ℕ) (number : ℕ) → textRefusal text ≡ suc number → listing text ≡ lineR (suc number)
+pub refused-line : (text : List ℕ) (number : ℕ) → textRefusal text ≡ suc number → listing text ≡ printedR (suc number)
 unfolding listing
 refused-line text number e = ap (λ (n : ℕ). unlessRefused n (playedRead (textOf text))) e
 
@@ -44,7 +44,7 @@ neither : (a b : Bool) → cond a true b ≡ false → (a ≡ false) × (b ≡ f
 neither true b e = (e, cc)
 neither false b e = (refl, e)
 
-unrefused : (text : List ℕ) (x : Read Text) → textOf text ≡ x → length text ≤ 65536 → formBroken x ≡ false → large x ≡ false → Unrefused text
+unrefused : (text : List ℕ) (x : Read Text) → textOf text ≡ x → length text ≤ 65536 → formBroken x ≡ false → tooLarge x ≡ false → Unrefused text
 unrefused text broken is few formed small = let z : _≡_ {A = ℕ} 0 1 = cc in absurd (omega arith)
 unrefused text (got t rest) is few formed small =
     let within = neither (ltb 2048 (t .n)) (ltb 256 (countOf (t .notes))) small in
@@ -61,6 +61,6 @@ pub unrefused-read : (text : List ℕ) → textRefusal text ≡ 0 → Unrefused 
 unfolding textRefusal
 unrefused-read text e =
     let x = textOf text in
-    let few = cond-zero (ltb 65536 (length text)) 15 (cond (formBroken x) 15 (cond (large x) 16 0)) e in
-    let formed = cond-zero (formBroken x) 14 (cond (large x) 16 0) (few .1) in
-    unrefused text x refl (ltb-false 65536 (length text) (few .0)) (formed .0) (cond-zero (large x) 15 0 (formed .1) .0)
+    let few = cond-zero (ltb 65536 (length text)) 15 (cond (formBroken x) 15 (cond (tooLarge x) 16 0)) e in
+    let formed = cond-zero (formBroken x) 14 (cond (tooLarge x) 16 0) (few .1) in
+    unrefused text x refl (ltb-false 65536 (length text) (few .0)) (formed .0) (cond-zero (tooLarge x) 15 0 (formed .1) .0)

@@ -12,7 +12,7 @@ use Rattle.laws.proofs.If.{if-true, if-false}
 use Rattle.text_listing.specs.Printed.{Printed, put}
 use Rattle.text_listing.proofs.Put.{printed-text}
 use Rattle.text.specs.Listing.{listing}
-use Rattle.text.specs.Reply.{short, replyOf, bytesAfter, Replied}
+use Rattle.text.specs.Reply.{tooShort, replyOf, bytesAfter, Replied}
 use Rattle.text.specs.declared.call.Reply.{Reply}
 use Rattle.text.specs.declared.call.Reply.the-variants.{Listing, Short}
 
@@ -61,9 +61,9 @@ listed-is true n m e = (cc, cc)
 listed-is false n m e = (refl, cc)
 
 module _ {text reply₀ reply : List ℕ} {said : Reply} (h : Replied text reply₀ said reply) (n : ℕ) (told : said ≡ Listing n) where
-  listed : (short text reply₀ ≡ false) × (n ≡ length (listing text))
+  listed : (tooShort text reply₀ ≡ false) × (n ≡ length (listing text))
   unfolding replyOf
-  listed = listed-is (short text reply₀) n (length (listing text)) (rw told at (h .answer))
+  listed = listed-is (tooShort text reply₀) n (length (listing text)) (rw told at (h .answer))
 
   -- the listing is within the reply
   pub length-within : n ≤ length reply₀

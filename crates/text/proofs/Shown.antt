@@ -21,9 +21,9 @@ use Rattle.text_read.specs.Notes.{countOf}
 use Rattle.text_read.specs.Text.{Text, textOf}
 use Rattle.text_read.specs.declared.text.TextScore.{TextScore}
 use Rattle.text_read.proofs.Said.{Said}
-use Rattle.text_listing.specs.Lines.{lineR}
+use Rattle.text_listing.specs.Lines.{printedR}
 use Rattle.text.proofs.Refused.{refusal-long}
-use Rattle.text.specs.Listing.{callOf, shownAt, shownOne, shown, played, formBroken, large, textRefusal, playedRead, unlessRefused, listing}
+use Rattle.text.specs.Listing.{callOf, shownAt, shownOne, shown, played, formBroken, tooLarge, textRefusal, playedRead, unlessRefused, listing}
 
 -- a session at a draw shows what its seed and that draw do
 shown-session : (seed end : ℕ) (b : Session) (r : Result) → b ≡ sessionAt seed end → shownAt (b .rng .0) (b .draw) r ≡ shownAt (stateAfter seed end) end r
@@ -44,24 +44,24 @@ played-by seq notes n seed draw a e opened scored is =
     one-call seed draw e (subst (λ (x : Session). Scored x e) opened scored) ∙ ap (λ (c : Call). shown seed (tally seed draw (c ∷ []))) is
 
 -- ---- by which number a text is refused, and which listing it then has
-listed-by : (n : ℕ) (l : List ℕ) → 0 < n → lineR n ≡ unlessRefused n l
+listed-by : (n : ℕ) (l : List ℕ) → 0 < n → printedR n ≡ unlessRefused n l
 listed-by zero l h = absurd (omega arith)
 listed-by (suc n) l h = refl
 
 module _ (text : List ℕ) where
-  listing-refused : (n : ℕ) → 0 < n → n ≡ textRefusal text → lineR n ≡ listing text
+  listing-refused : (n : ℕ) → 0 < n → n ≡ textRefusal text → printedR n ≡ listing text
   unfolding listing
   listing-refused n h e = rw (← e) (listed-by n (playedRead (textOf text)) h)
 
-  pub listing-long : 65536 < length text → lineR 16 ≡ listing text
+  pub listing-long : 65536 < length text → printedR 16 ≡ listing text
   listing-long h = listing-refused 16 (omega arith) (refusal-long text h)
 
   module _ (few : length text ≤ 65536) where
-    read-as : (n : ℕ) (x : Read Text) → textOf text ≡ x → n ≡ cond (formBroken x) 15 (cond (large x) 16 0) → n ≡ textRefusal text
+    read-as : (n : ℕ) (x : Read Text) → textOf text ≡ x → n ≡ cond (formBroken x) 15 (cond (tooLarge x) 16 0) → n ≡ textRefusal text
     unfolding textRefusal
     read-as n x is e = if-false _ (le-ltb _ _ few) (rw is e)
 
-    pub listing-broken : textOf text ≡ broken → lineR 15 ≡ listing text
+    pub listing-broken : textOf text ≡ broken → printedR 15 ≡ listing text
     listing-broken e = listing-refused 15 (omega arith) (read-as 15 broken e refl)
 
     module _ {x : TextScore} {words₀ words : List ℕ} (said : Said x (textOf text) words₀ words) where
@@ -75,20 +75,20 @@ module _ (text : List ℕ) where
       many = ap (λ (y : TextScore). y .count) (said .score)
 
       -- the text is large where `b` is
-      sized-as : (b : Bool) → large (got t (said .rest)) ≡ b → cond b 16 0 ≡ textRefusal text
+      sized-as : (b : Bool) → tooLarge (got t (said .rest)) ≡ b → cond b 16 0 ≡ textRefusal text
       sized-as b e = read-as (cond b 16 0) (got t (said .rest)) (said .is) (sym (ap (λ (z : Bool). cond z 16 0) e))
 
-      pub listing-frames : 2048 < x .n → lineR 16 ≡ listing text
+      pub listing-frames : 2048 < x .n → printedR 16 ≡ listing text
       listing-frames h = listing-refused 16 (omega arith) (sized-as true (sym (if-true _ (lt-ltb _ _ (rw long at h)) refl)))
 
-      pub listing-notes : x .n ≤ 2048 → 256 < x .count → lineR 16 ≡ listing text
+      pub listing-notes : x .n ≤ 2048 → 256 < x .count → printedR 16 ≡ listing text
       listing-notes f h =
-          let some : large (got t (said .rest)) ≡ true = sym (if-false _ (le-ltb _ _ (rw long at f)) (sym (lt-ltb _ _ (rw many at h)))) in
+          let some : tooLarge (got t (said .rest)) ≡ true = sym (if-false _ (le-ltb _ _ (rw long at f)) (sym (lt-ltb _ _ (rw many at h)))) in
           listing-refused 16 (omega arith) (sized-as true some)
 
       pub listing-played : x .n ≤ 2048 → x .count ≤ 256 → (ws : List ℕ) → ws ≡ t .notes → played (x .seq) ws (x .n) (x .seed) (x .draw) ≡ listing text
       unfolding listing
       listing-played f h ws is =
-          let few : large (got t (said .rest)) ≡ false = sym (if-false _ (le-ltb _ _ (rw long at f)) (sym (le-ltb _ _ (rw many at h)))) in
+          let few : tooLarge (got t (said .rest)) ≡ false = sym (if-false _ (le-ltb _ _ (rw long at f)) (sym (le-ltb _ _ (rw many at h)))) in
           let none : 0 ≡ textRefusal text = sized-as false few in
           rw (← none, said .is) (λ j. played (said .score j .seq) (is j) (said .score j .n) (said .score j .seed) (said .score j .draw))

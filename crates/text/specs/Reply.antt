@@ -11,16 +11,16 @@ use Rattle.text.specs.declared.call.Reply.{Reply}
 use Rattle.text.specs.declared.call.Reply.the-variants.{Listing, Short}
 
 -- "23 C call only: reply buffer shorter than the listing"
-abbrev pub short : List ℕ → List ℕ → Bool
-short text reply₀ = ltb (length reply₀) (length (listing text))
+abbrev pub tooShort : List ℕ → List ℕ → Bool
+tooShort text reply₀ = ltb (length reply₀) (length (listing text))
 
 -- what a text call answers that is lent `reply₀`
 unfoldable pub replyOf : List ℕ → List ℕ → Reply
-replyOf text reply₀ = cond (short text reply₀) Short (Listing (length (listing text)))
+replyOf text reply₀ = cond (tooShort text reply₀) Short (Listing (length (listing text)))
 
 -- and what it leaves in it
 unfoldable pub bytesAfter : List ℕ → List ℕ → List ℕ
-bytesAfter text reply₀ = cond (short text reply₀) reply₀ (listing text ++ drop (length (listing text)) reply₀)
+bytesAfter text reply₀ = cond (tooShort text reply₀) reply₀ (listing text ++ drop (length (listing text)) reply₀)
 
 -- The contract of a text call that is lent `reply₀` and leaves `reply`.
 pub record Replied (text reply₀ : List ℕ) (said : Reply) (reply : List ℕ) : Type 0 where

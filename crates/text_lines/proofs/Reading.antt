@@ -7,12 +7,12 @@ use native.Mathlib.Numerals.{add-one}
 use lib.ListN.{length, take, drop, set, getD, length-set, drop-of-length-le, take-append-drop}
 use lib.Seq.{take-suc-set, take-all, drop-set-lt, drop-drop, length-take-le}
 use Rattle.text_digits.specs.Read.{Read, got, broken, after}
-use Rattle.text_digits.specs.Answers.{placeIn, numberIn}
+use Rattle.text_digits.specs.Answers.{placeIn, valueIn}
 use Rattle.text_digits.specs.declared.Place.{Place}
 use Rattle.text_digits.specs.declared.Place.the-variants as place
 use Rattle.text_digits.specs.declared.Number.{Number}
 use Rattle.text_digits.specs.declared.Number.the-variants.{At, Broken}
-use Rattle.text_lines.specs.Line.{field, fields, before, leading, storedIn, line, formS, formE, numbersOf, envOf, lineS, lineE}
+use Rattle.text_lines.specs.Line.{field, fields, before, leading, storedIn, line, formS, formE, numbersOf, envOfBits, lineS, lineE}
 use Rattle.text_digits.proofs.Reading.{head}
 
 pub before-none : (r : Read (List ℕ)) → before [] r ≡ r
@@ -30,12 +30,12 @@ before-before us vs (got ws s) = ap (λ (l : List ℕ). got l s) (append-assoc u
 before-before us vs broken = refl
 
 module _ (vs kinds s : List ℕ) (i at : ℕ) {r : Number} where
-  pub fields-bad : i < length kinds → r ≡ Broken → numberIn s r ≡ field (getD kinds i 0) (drop at s) → broken ≡ before vs (fields (drop i kinds) (drop at s))
+  pub fields-bad : i < length kinds → r ≡ Broken → valueIn s r ≡ field (getD kinds i 0) (drop at s) → broken ≡ before vs (fields (drop i kinds) (drop at s))
   unfolding fields
   fields-bad h told e = rw (head kinds i h, ← (rw told at e)) (before-broken vs)
 
 module _ (vs kinds s : List ℕ) (i at : ℕ) {v next : ℕ} {r : Number} where
-  pub fields-more : i < length kinds → i < length vs → r ≡ At v next → numberIn s r ≡ field (getD kinds i 0) (drop at s)
+  pub fields-more : i < length kinds → i < length vs → r ≡ At v next → valueIn s r ≡ field (getD kinds i 0) (drop at s)
       → before (take (i + 1) (set vs i v)) (fields (drop (i + 1) kinds) (drop next s)) ≡ before (take i vs) (fields (drop i kinds) (drop at s))
   unfolding fields
   fields-more h l told e =
@@ -70,7 +70,7 @@ module _ {kinds s : List ℕ} {start : ℕ} {values₀ : List ℕ} {i at : ℕ} 
   unfolding leading
   led-all l = led-end (rw (drop-of-length-le kinds l))
 
-  module _ (lt : i < length kinds) {r : Number} (e : numberIn s r ≡ field (getD kinds i 0) (drop at s)) where
+  module _ (lt : i < length kinds) {r : Number} (e : valueIn s r ≡ field (getD kinds i 0) (drop at s)) where
     pub led-bad : r ≡ Broken → values ≡ storedIn (leading kinds (drop start s)) values₀
     unfolding leading
     led-bad told = led-end (rw (head kinds i lt, ← (rw told at e)))
@@ -87,9 +87,9 @@ module _ {kinds s : List ℕ} {start : ℕ} {values₀ : List ℕ} {i at : ℕ} 
         }
 
 -- the newline's place is the line's, whatever the line's value
-pub placed : {A B : Type 0} (s : List ℕ) (b : A) (v : B) {x : Read A} (r : Place) → placeIn s b r ≡ x → placeIn s v r ≡ after x (λ _ next. got v next)
-placed s b v (place.At next) e = rw (← e)
-placed s b v place.Broken e = rw (← e)
+pub newline-placed : {A B : Type 0} (s : List ℕ) (b : A) (v : B) {x : Read A} (r : Place) → placeIn s b r ≡ x → placeIn s v r ≡ after x (λ _ next. got v next)
+newline-placed s b v (place.At next) e = rw (← e)
+newline-placed s b v place.Broken e = rw (← e)
 
 -- a line whose values fill a slice
 module _ (l x : List ℕ) {rest : List ℕ} where
@@ -97,6 +97,6 @@ module _ (l x : List ℕ) {rest : List ℕ} where
   unfolding lineS
   numbers-read h e = let z : length l ≤ 6 = omega arith in rw (← (rw (take-all 6 l z) at e))
 
-  pub env-read : length l ≡ 5 → got (take 5 l) rest ≡ line 69 formE x → got (envOf l) rest ≡ lineE x
+  pub env-read : length l ≡ 5 → got (take 5 l) rest ≡ line 69 formE x → got (envOfBits l) rest ≡ lineE x
   unfolding lineE
   env-read h e = let z : length l ≤ 5 = omega arith in rw (← (rw (take-all 5 l z) at e))

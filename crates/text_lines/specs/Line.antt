@@ -94,8 +94,8 @@ lineG s =
 abbrev pub formE : List ℕ
 formE = float ∷ float ∷ float ∷ float ∷ float ∷ []
 
-abbrev pub envOf : List ℕ → Adsr
-envOf vs = record { a = floatAt vs 0; d = floatAt vs 1; s = floatAt vs 2; r = floatAt vs 3; punch = floatAt vs 4 }
+abbrev pub envOfBits : List ℕ → Adsr
+envOfBits vs = record { a = floatAt vs 0; d = floatAt vs 1; s = floatAt vs 2; r = floatAt vs 3; punch = floatAt vs 4 }
 
 unfoldable pub lineE : List ℕ → Read Adsr
-lineE s = after (line 69 formE s) (λ vs rest. got (envOf vs) rest)
+lineE s = after (line 69 formE s) (λ vs rest. got (envOfBits vs) rest)

@@ -4,7 +4,7 @@ ghost use mathlib.Core.Path.{_≡_};
 ghost use Prim.Native.Nat.{_≤_};
 ghost use lib.ListN.{length, take, drop};
 ghost use Rattle.text_lines.specs.Line.{value, field, fields, ending, line, leading, storedIn, leadingLine, floatAt, lineS, seedField, drawField, lineG, lineE};
-ghost use Rattle.text_digits.specs.Answers.{placeIn, numberIn};
+ghost use Rattle.text_digits.specs.Answers.{placeIn, valueIn};
 ghost use Rattle.text_lines.specs.Answers.{numbersIn, openingIn, envIn};
 use dsl::Adsr;
 use text_digits::Number;
@@ -19,7 +19,7 @@ pub const FLOAT: u8 = 8;
 pub const WORD: u8 = 32;
 
 fn value(s: &[u8], at: usize, kind: u8) -> Number
-    ensures { λ r. ⌜ numberIn (now (s .entry)) r ≡ value kind (drop at (now (s .entry))) ⌝ }
+    ensures { λ r. ⌜ valueIn (now (s .entry)) r ≡ value kind (drop at (now (s .entry))) ⌝ }
 {
     if kind == FLOAT {
         return hex(s, at, 8);
@@ -29,7 +29,7 @@ fn value(s: &[u8], at: usize, kind: u8) -> Number
 
 // A tab and a value.
 pub fn field(s: &[u8], at: usize, kind: u8) -> Number
-    ensures { λ r. ⌜ numberIn (now (s .entry)) r ≡ field kind (drop at (now (s .entry))) ⌝ }
+    ensures { λ r. ⌜ valueIn (now (s .entry)) r ≡ field kind (drop at (now (s .entry))) ⌝ }
 {
     let Place::At(next) = expect(s, at, b'\t') else {
         return Number::Broken;
@@ -137,7 +137,7 @@ pub enum LineG {
 }
 
 fn seed_field(s: &[u8], at: usize) -> Number
-    ensures { λ r. ⌜ numberIn (now (s .entry)) r ≡ seedField (drop at (now (s .entry))) ⌝ }
+    ensures { λ r. ⌜ valueIn (now (s .entry)) r ≡ seedField (drop at (now (s .entry))) ⌝ }
 {
     let Place::At(next) = expect(s, at, b'\t') else {
         return Number::Broken;
@@ -146,7 +146,7 @@ fn seed_field(s: &[u8], at: usize) -> Number
 }
 
 fn draw_field(s: &[u8], at: usize) -> Number
-    ensures { λ r. ⌜ numberIn (now (s .entry)) r ≡ drawField (drop at (now (s .entry))) ⌝ }
+    ensures { λ r. ⌜ valueIn (now (s .entry)) r ≡ drawField (drop at (now (s .entry))) ⌝ }
 {
     let Place::At(next) = expect(s, at, b'\t') else {
         return Number::Broken;

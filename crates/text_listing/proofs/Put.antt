@@ -7,7 +7,7 @@ use native.Mathlib.Omega.{arith}
 use native.Mathlib.Nat.{zero-add}
 use native.Mathlib.Numerals.{add-one}
 use lib.ListN.{length, take, drop, set, length-append, length-drop, take-append-drop}
-use lib.Seq.{set-split, take-at, drop-at, drop-append-add, drop-drop, length-take-le}
+use lib.Seq.{set-split, take-at, drop-append-add, drop-drop, length-take-le}
 use Rattle.text_listing.specs.Printed.{put, Room, Printed}
 
 pub printed-one : (b at : ℕ) (out : List ℕ) → Room (b ∷ []) at out → Printed (b ∷ []) at out (at + 1) (set out at b)
@@ -96,6 +96,3 @@ module _ {text : List ℕ} {out : List ℕ} {n : ℕ} {out₁ : List ℕ} (p : P
 
   pub printed-text : take n out₁ ≡ text
   printed-text = rw whole (take-at text (drop n out) n (sym (p .after ∙ omega arith)))
-
-  pub printed-rest : drop n out₁ ≡ drop n out
-  printed-rest = rw whole (drop-at text (drop n out) n (sym (p .after ∙ omega arith)))

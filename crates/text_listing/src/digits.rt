@@ -3,7 +3,7 @@ ghost use mathlib.Core.Path.{_≡_};
 ghost use mathlib.Core.List.{[], _∷_};
 ghost use Prim.Native.Nat.{_<_};
 ghost use Rattle.text_listing.specs.Digits.{digitFor, hexText, decimalText};
-ghost use Rattle.text_listing.specs.Lines.{tabbed};
+ghost use Rattle.text_listing.specs.Lines.{tabbedText};
 ghost use Rattle.text_listing.specs.Printed.{Room, Printed};
 
 // The byte of a digit.
@@ -51,8 +51,8 @@ fn put_decimal(out: &mut [u8], at: usize, v: u64) -> usize
 
 // A tab and hexadecimal digits.
 pub(crate) fn put_hex_field(out: &mut [u8], at: usize, count: usize, v: u64) -> usize
-    requires { ⌜ Room (tabbed (hexText count v)) at (now out) ⌝ }
-    ensures { λ r. ⌜ Printed (tabbed (hexText count v)) at (now (out .entry)) r (now (out .exit)) ⌝ }
+    requires { ⌜ Room (tabbedText (hexText count v)) at (now out) ⌝ }
+    ensures { λ r. ⌜ Printed (tabbedText (hexText count v)) at (now (out .entry)) r (now (out .exit)) ⌝ }
 {
     let next = put_byte(out, at, b'\t');
     put_hex(out, next, count, v)
@@ -60,8 +60,8 @@ pub(crate) fn put_hex_field(out: &mut [u8], at: usize, count: usize, v: u64) -> 
 
 // A tab and a decimal number.
 pub(crate) fn put_decimal_field(out: &mut [u8], at: usize, v: u64) -> usize
-    requires { ⌜ Room (tabbed (decimalText v)) at (now out) ⌝ }
-    ensures { λ r. ⌜ Printed (tabbed (decimalText v)) at (now (out .entry)) r (now (out .exit)) ⌝ }
+    requires { ⌜ Room (tabbedText (decimalText v)) at (now out) ⌝ }
+    ensures { λ r. ⌜ Printed (tabbedText (decimalText v)) at (now (out .entry)) r (now (out .exit)) ⌝ }
 {
     let next = put_byte(out, at, b'\t');
     put_decimal(out, next, v)

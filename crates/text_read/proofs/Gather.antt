@@ -1,5 +1,5 @@
 -- Use for the two loops over the notes, the one that judges and the one that stores, whose invariants are `Gathered` and `Storing`. Assumes nothing.
-use Prim.Native.Nat.{ℕ, zero, suc, _+_, _*_, _/_, _≤_, _<_}
+use Prim.Native.Nat.{ℕ, suc, _+_, _*_, _/_, _≤_, _<_}
 use mathlib.Core.Path.{_≡_, refl, sym, ap, _∙_}
 use mathlib.Core.List.{List, [], _∷_, _++_, append-nil, append-assoc}
 use native.Mathlib.Omega.{arith}
@@ -9,7 +9,7 @@ use lib.Seq.{sets-eq, take-at, drop-append-add, drop-drop}
 use Rattle.text_digits.specs.Read.{Read, got, broken}
 use Rattle.laws.proofs.If.{if-true, if-false}
 use Rattle.text_lines.specs.Line.{before, storedIn, line}
-use Rattle.text_read.specs.Notes.{note, notesOf, orElse, wordsOf, formN, formShort, gain1, countOf, counted, wordsAfter, Noted, Fitting}
+use Rattle.text_read.specs.Notes.{lineN, notesOf, eitherForm, wordsOf, formN, formShort, gain1, countOf, counted, wordsAfter, Noted, Fitting}
 use Rattle.text_read.specs.Answers.{noteIn}
 use Rattle.text_read.specs.declared.notes.LineN.{LineN}
 use Rattle.text_read.specs.declared.notes.LineN.the-variants as line-n
@@ -36,16 +36,16 @@ short (a ∷ b ∷ []) = refl
 short (a ∷ b ∷ c ∷ l) = refl
 
 module _ (l x : List ℕ) {rest : List ℕ} where
-  pub note-whole : got (take 4 l) rest ≡ line 78 formN x → got (wordsOf l (getD l 3 0)) rest ≡ note x
-  unfolding note orElse
+  pub note-whole : got (take 4 l) rest ≡ line 78 formN x → got (wordsOf l (getD l 3 0)) rest ≡ lineN x
+  unfolding lineN eitherForm
   note-whole e = rw (← e, whole l)
 
-  pub note-short : broken ≡ line 78 formN x → got (take 3 l) rest ≡ line 78 formShort x → got (wordsOf l gain1) rest ≡ note x
-  unfolding note orElse
+  pub note-short : broken ≡ line 78 formN x → got (take 3 l) rest ≡ line 78 formShort x → got (wordsOf l gain1) rest ≡ lineN x
+  unfolding lineN eitherForm
   note-short d e = rw (← d, ← e, short l)
 
-pub note-none : (x : List ℕ) → broken ≡ line 78 formN x → broken ≡ line 78 formShort x → broken ≡ note x
-unfolding note orElse
+pub note-none : (x : List ℕ) → broken ≡ line 78 formN x → broken ≡ line 78 formShort x → broken ≡ lineN x
+unfolding lineN eitherForm
 note-none x d e = rw (← d, ← e)
 
 -- five stores, one after another
@@ -81,17 +81,17 @@ module _ {s : List ℕ} {start at n : ℕ} (g : Gathered s start at n) where
   pub gathered-count : length s ≤ at → Lines n ≡ counted (notesOf (drop start s))
   gathered-count h = let z : n ≡ length (g .ws) / 5 = omega (arith, g .five) in rw (← (gathered-all h)) (ap Lines z)
 
-  module _ {r : LineN} (lt : at < length s) (e : noteIn s r ≡ note (drop at s)) where
+  module _ {r : LineN} (lt : at < length s) (e : noteIn s r ≡ lineN (drop at s)) where
     pub gathered-bad : r ≡ line-n.Broken → broken ≡ notesOf (drop start s)
     gathered-bad told =
-        let d : broken ≡ note (getD s at 0 ∷ drop (at + 1) s) = rw (told, head s at lt) at e in
+        let d : broken ≡ lineN (getD s at 0 ∷ drop (at + 1) s) = rw (told, head s at lt) at e in
         before-broken (g .ws) ∙ rw (head s at lt, notes-line, ← d) at (g .ahead)
 
     module _ {a b p q next : ℕ} (told : r ≡ line-n.At a b p q next) (later : at < next) where
       pub gathered-more : Gathered s start next (n + 1)
       gathered-more =
           let v = a ∷ b ∷ 0 ∷ p ∷ q ∷ [] in
-          let d : got v (drop next s) ≡ note (getD s at 0 ∷ drop (at + 1) s) = rw (told, head s at lt) at e in
+          let d : got v (drop next s) ≡ lineN (getD s at 0 ∷ drop (at + 1) s) = rw (told, head s at lt) at e in
           record {
             ws = g .ws ++ v;
             ahead = before-before (g .ws) v (notesOf (drop next s)) ∙ (rw (head s at lt, notes-line, ← d) at (g .ahead));
@@ -125,7 +125,7 @@ module _ {s : List ℕ} {start : ℕ} {words₀ words : List ℕ} {at n : ℕ} (
       let l : length w ≤ length words₀ = rw z (g .fits .room) in
       rw (← all) (if-false words₀ (le-ltb (length words₀) (length w) l) (g .held))
 
-  module _ {r : LineN} (lt : at < length s) (e : noteIn s r ≡ note (drop at s)) where
+  module _ {r : LineN} (lt : at < length s) (e : noteIn s r ≡ lineN (drop at s)) where
     -- lines that were judged do not break
     pub storing-bad : {P : Type 0} → r ≡ line-n.Broken → P
     storing-bad told = broken-got (gathered-bad (g .gathered) lt e told ∙ g .fits .is)

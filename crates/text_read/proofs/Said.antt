@@ -12,7 +12,7 @@ use Rattle.text_lines.proofs.Forms.{parted, got-value}
 use Rattle.text_voice_line.specs.Voice.{lineV}
 use Rattle.text_read.specs.Notes.{notesOf, countOf, wordsAfter}
 use Rattle.text_read.proofs.Fives.{notes-five}
-use Rattle.text_read.specs.Text.{Text, textOf, scoreOf, parsedOf, notesIn, Parses}
+use Rattle.text_read.specs.Text.{Text, textOf, textScoreOf, parsedOf, notesIn, Parses}
 use Rattle.text_read.specs.declared.text.TextScore.{TextScore}
 use Rattle.text_read.specs.declared.text.Parsed.{Parsed}
 use Rattle.text_read.specs.declared.text.Parsed.the-variants.{Score, Broken}
@@ -22,7 +22,7 @@ pub record Said (x : TextScore) (read : Read Text) (words₀ words : List ℕ) :
   pub text : Text
   pub rest : List ℕ
   pub is : read ≡ got text rest
-  pub score : x ≡ scoreOf text
+  pub score : x ≡ textScoreOf text
   pub stored : words ≡ wordsAfter (got (text .notes) rest) words₀
 
 said : (read : Read Text) (words₀ words : List ℕ) {x : TextScore} → Score x ≡ parsedOf read → words ≡ wordsAfter (notesIn read) words₀ → Said x read words₀ words

@@ -20,24 +20,24 @@ module _ (text words : List ℕ) where
   parses-broken : broken ≡ textOf text → Parses text words Broken words
   parses-broken e = record { answer = rw (← e); words = rw (← e) }
 
-  pub no-numbers : broken ≡ lineS text → Parses text words Broken words
+  pub broken-numbers : broken ≡ lineS text → Parses text words Broken words
   unfolding textOf
-  no-numbers e = parses-broken (rw (← e))
+  broken-numbers e = parses-broken (rw (← e))
 
   module _ {a : Numbers} {s₁ : List ℕ} (hS : got a s₁ ≡ lineS text) where
-    pub no-opening : broken ≡ lineG s₁ → Parses text words Broken words
+    pub broken-opening : broken ≡ lineG s₁ → Parses text words Broken words
     unfolding textOf
-    no-opening e = parses-broken (rw (← hS, ← e))
+    broken-opening e = parses-broken (rw (← hS, ← e))
 
     module _ {g : Opening} {s₂ : List ℕ} (hG : got g s₂ ≡ lineG s₁) where
-      pub no-envelope : broken ≡ lineE s₂ → Parses text words Broken words
+      pub broken-envelope : broken ≡ lineE s₂ → Parses text words Broken words
       unfolding textOf
-      no-envelope e = parses-broken (rw (← hS, ← hG, ← e))
+      broken-envelope e = parses-broken (rw (← hS, ← hG, ← e))
 
       module _ {env : Adsr} {s₃ : List ℕ} (hE : got env s₃ ≡ lineE s₂) where
-        pub no-voice : broken ≡ lineV s₃ → Parses text words Broken words
+        pub broken-voice : broken ≡ lineV s₃ → Parses text words Broken words
         unfolding textOf
-        no-voice e = parses-broken (rw (← hS, ← hG, ← hE, ← e))
+        broken-voice e = parses-broken (rw (← hS, ← hG, ← hE, ← e))
 
         module _ {v : Sound} {s₄ : List ℕ} (hV : got v s₄ ≡ lineV s₃) where
           textWith : List ℕ → Text
@@ -71,9 +71,9 @@ module _ (text words : List ℕ) where
             unfolding textFrom
             words-after = h .stored ∙ ap (λ (x : Read (List ℕ)). wordsAfter x words) (same-notes (notesOf s₄) ∙ ap notesIn (sym lines-read))
 
-            pub no-notes : r ≡ count-of.Broken → Parses text words Broken words₁
+            pub broken-notes : r ≡ count-of.Broken → Parses text words Broken words₁
             unfolding textFrom
-            no-notes told = record { answer = rw (lines-read, ← (bad (notesOf s₄) (rw told at (h .count)))); words = words-after }
+            broken-notes told = record { answer = rw (lines-read, ← (bad (notesOf s₄) (rw told at (h .count)))); words = words-after }
 
             pub all-lines : {n : ℕ} → r ≡ count-of.Lines n → Parses text words (Score (record { seq = seqOf a env v; n = a .n; seed = g .seed; draw = g .draw; count = n })) words₁
             unfolding textFrom

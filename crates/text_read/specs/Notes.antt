@@ -25,13 +25,13 @@ abbrev pub gain1 : ℕ
 gain1 = 0x3f800000
 
 -- the one form, or, where the bytes are not of it, the other
-unfoldable pub orElse : {A : Type 0} → Read A → Read A → Read A
-orElse (got v s) r = got v s
-orElse broken r = r
+unfoldable pub eitherForm : {A : Type 0} → Read A → Read A → Read A
+eitherForm (got v s) r = got v s
+eitherForm broken r = r
 
-unfoldable pub note : List ℕ → Read (List ℕ)
-note s =
-    orElse (after (line 78 formN s) (λ vs rest. got (wordsOf vs (getD vs 3 0)) rest))
+unfoldable pub lineN : List ℕ → Read (List ℕ)
+lineN s =
+    eitherForm (after (line 78 formN s) (λ vs rest. got (wordsOf vs (getD vs 3 0)) rest))
     (after (line 78 formShort s) (λ vs rest. got (wordsOf vs gain1) rest))
 
 -- the words of at most so many lines, to the end of the bytes
@@ -39,7 +39,7 @@ unfoldable pub notesUpTo : ℕ → List ℕ → Read (List ℕ)
 notesUpTo zero [] = got [] []
 notesUpTo zero (b ∷ s) = broken
 notesUpTo (suc most) [] = got [] []
-notesUpTo (suc most) (b ∷ s) = after (note (b ∷ s)) (λ ws rest. before ws (notesUpTo most rest))
+notesUpTo (suc most) (b ∷ s) = after (lineN (b ∷ s)) (λ ws rest. before ws (notesUpTo most rest))
 
 -- The words of all lines to the end. There are no more lines than bytes, so that the bound is never met: the law `notes-line` says that notesOf of bytes is a note and then notesOf of the rest.
 unfoldable pub notesOf : List ℕ → Read (List ℕ)

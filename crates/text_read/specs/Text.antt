@@ -45,11 +45,11 @@ textOf s =
     after (notesOf s₄) (λ ws rest. got (record { seq = seqOf a env v; n = a .n; seed = g .seed; draw = g .draw; notes = ws }) rest)))))
 
 -- what a reader of the text answers
-abbrev pub scoreOf : Text → TextScore
-scoreOf t = record { seq = t .seq; n = t .n; seed = t .seed; draw = t .draw; count = countOf (t .notes) }
+abbrev pub textScoreOf : Text → TextScore
+textScoreOf t = record { seq = t .seq; n = t .n; seed = t .seed; draw = t .draw; count = countOf (t .notes) }
 
 abbrev pub parsedOf : Read Text → Parsed
-parsedOf (got t rest) = Score (scoreOf t)
+parsedOf (got t rest) = Score (textScoreOf t)
 parsedOf broken = Broken
 
 abbrev pub notesIn : Read Text → Read (List ℕ)

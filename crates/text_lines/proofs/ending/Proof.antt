@@ -1,5 +1,5 @@
 -- `text_lines::ending` meets its contract. Assumes nothing.
-use Rattle.text_lines.proofs.Reading.{placed}
+use Rattle.text_lines.proofs.Reading.{newline-placed}
 use Rattle.text_lines.specs.Line.{ending}
 use borrow.Author.Needs.{needs}
 use Rattle.text_lines.proofs.ending.Statement.{statement}
@@ -34,7 +34,7 @@ unfolding ending
 returns-2 c =
     let b6 = c .before .before .before .before .before .before in
     let read = rw (c .before .before .last .given .1) at (b6 .fields .ensures .0) in
-    (rw (← read) (placed _ 10 _ (c .expect .result) (c .expect .ensures)), b6 .fields .ensures .1)
+    (rw (← read) (newline-placed _ 10 _ (c .expect .result) (c .expect .ensures)), b6 .fields .ensures .1)
 
 pub ending-spec : {M : Type 1} → statement M
 ending-spec =

@@ -4,7 +4,6 @@ use native.Mathlib.Omega.{arith}
 use lib.ListN.{length}
 use Rattle.text_read.proofs.Gather.{Gathered, gathered-none, gathered-bad, gathered-more, gathered-count}
 use Rattle.text_read.proofs.Shorter.{note-later}
-use mathlib.Core.Path.{refl}
 use borrow.Author.Needs.{needs}
 use Rattle.text_read.proofs.notes.count_notes.Statement.{statement}
 use Rattle.text_read.proofs.notes.count_notes.Tie as tie

@@ -1,5 +1,5 @@
 -- `text_read::text::read_score` meets its contract. Assumes nothing.
-use Rattle.text_read.proofs.Texts.{no-numbers, no-opening, no-envelope, no-voice, no-notes, all-lines}
+use Rattle.text_read.proofs.Texts.{broken-numbers, broken-opening, broken-envelope, broken-voice, broken-notes, all-lines}
 use borrow.Author.Needs.{needs}
 use Rattle.text_read.proofs.text.read_score.Statement.{statement}
 use Rattle.text_read.proofs.text.read_score.Tie as tie
@@ -14,7 +14,7 @@ enum-told : tie.Need-enum-told
 enum-told c = search needs
 
 returns : tie.Need-returns
-returns c = no-numbers _ _ (rw (c .enum-told .given .1) at (c .before .before .line-s .ensures))
+returns c = broken-numbers _ _ (rw (c .enum-told .given .1) at (c .before .before .line-s .ensures))
 
 line-g-requires : tie.Need-line-g-requires
 line-g-requires c κs = search needs
@@ -28,7 +28,7 @@ enum-told-2 c = search needs
 returns-2 : tie.Need-returns-2
 returns-2 c =
     let b4 = c .before .before .before .before in
-    no-opening _ _ (rw (b4 .numbers .given .1) at (b4 .before .before .line-s .ensures)) (rw (c .enum-told2 .given .1) at (c .before .before .line-g .ensures))
+    broken-opening _ _ (rw (b4 .numbers .given .1) at (b4 .before .before .line-s .ensures)) (rw (c .enum-told2 .given .1) at (c .before .before .line-g .ensures))
 
 line-e-requires : tie.Need-line-e-requires
 line-e-requires c κs = search needs
@@ -44,7 +44,7 @@ returns-3 c =
     let b4 = c .before .before .before .before in
     let b8 = b4 .before .before .before .before in
     let numbers = rw (b8 .numbers .given .1) at (b8 .before .before .line-s .ensures) in
-    no-envelope _ _ numbers (rw (b4 .opening .given .1) at (b4 .before .before .line-g .ensures)) (rw (c .enum-told3 .given .1) at (c .before .before .line-e .ensures))
+    broken-envelope _ _ numbers (rw (b4 .opening .given .1) at (b4 .before .before .line-g .ensures)) (rw (c .enum-told3 .given .1) at (c .before .before .line-e .ensures))
 
 line-v-requires : tie.Need-line-v-requires
 line-v-requires c κs = search needs
@@ -62,7 +62,7 @@ returns-4 c =
     let b12 = b8 .before .before .before .before in
     let numbers = rw (b12 .numbers .given .1) at (b12 .before .before .line-s .ensures) in
     let opening = rw (b8 .opening .given .1) at (b8 .before .before .line-g .ensures) in
-    no-voice _ _ numbers opening (rw (b4 .env .given .1) at (b4 .before .before .line-e .ensures)) (rw (c .enum-told4 .given .1) at (c .before .before .line-v .ensures))
+    broken-voice _ _ numbers opening (rw (b4 .env .given .1) at (b4 .before .before .line-e .ensures)) (rw (c .enum-told4 .given .1) at (c .before .before .line-v .ensures))
 
 notes-requires : tie.Need-notes-requires
 notes-requires c κs = search needs
@@ -86,7 +86,7 @@ returns-5 c =
     let numbers = rw (b19 .numbers .given .1) at (b19 .before .before .line-s .ensures) in
     let opening = rw (b15 .opening .given .1) at (b15 .before .before .line-g .ensures) in
     let env = rw (b11 .env .given .1) at (b11 .before .before .line-e .ensures) in
-    no-notes _ _ numbers opening env (rw (b7 .sound .given .1) at (b7 .before .before .line-v .ensures)) (b4 .notes .ensures) (c .enum-told5 .given .1)
+    broken-notes _ _ numbers opening env (rw (b7 .sound .given .1) at (b7 .before .before .line-v .ensures)) (b4 .notes .ensures) (c .enum-told5 .given .1)
 
 same-length-2 : tie.Need-same-length-2
 same-length-2 c = search needs

@@ -6,6 +6,6 @@ use mathlib.Core.List.{List}
 use lib.IntN.{ℤ}
 use Rattle.text.specs.Reply.{replyOf, bytesAfter, returnOf}
 
-pub record Returned (score reply₀ : List ℕ) (said : ℤ) (reply : List ℕ) : Type 0 where
+pub record Answered (score reply₀ : List ℕ) (said : ℤ) (reply : List ℕ) : Type 0 where
   pub answer : said ≡ returnOf (replyOf score reply₀)
   pub bytes : reply ≡ bytesAfter score reply₀
