@@ -28,7 +28,8 @@ enum-known-length c = search needs
 cast-result : tie.Need-cast-result
 cast-result c =
     let b5 = c .before .before .before .before .before in
-    length-fits (b5 .before .before .before .before) _ (length-within (b5 .play-text .ensures) _ (c .before .length .given .1))
+    let within = length-within (b5 .play-text .ensures) _ (c .before .length .given .1) in
+    sfits-of (omega (arith, within))
 
 enum-told : tie.Need-enum-told
 enum-told c = search needs
