@@ -9,7 +9,7 @@ use session::Answer;
 
 // Prints an answer and the frames that the call left at the start of `page`, and gives the place
 // after them.
-pub fn print_answer(page: &mut [u8], answer: Answer, frames: &[f32]) -> usize
+pub(crate) fn print_answer(page: &mut [u8], answer: Answer, frames: &[f32]) -> usize
     requires { ⌜ length (now frames) ≤ 2048 ⌝ }
     requires { ⌜ 32808 ≤ length (now page) ⌝ }
     ensures { λ r. ⌜ Printed (shownAt (answer .session .rng .0) (answer .session .draw) (seen (answer .outcome) (now (frames .entry)))) 0 (now (page .entry)) r (now (page .exit)) ⌝ }

@@ -13,6 +13,6 @@ abbrev pub placeIn : {A : Type 0} → List ℕ → A → Place → Read A
 placeIn s v (place.At next) = got v (drop next s)
 placeIn s v place.Broken = broken
 
-abbrev pub numberIn : List ℕ → Number → Read ℕ
-numberIn s (number.At v next) = got v (drop next s)
-numberIn s number.Broken = broken
+abbrev pub valueIn : List ℕ → Number → Read ℕ
+valueIn s (number.At v next) = got v (drop next s)
+valueIn s number.Broken = broken

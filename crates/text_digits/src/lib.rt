@@ -3,7 +3,7 @@ ghost use mathlib.Core.Path.{_≡_};
 ghost use Prim.Native.Nat.{_≤_};
 ghost use lib.ListN.{drop};
 ghost use Rattle.text_digits.specs.Read.{digitOf, byte, hex, decimal};
-ghost use Rattle.text_digits.specs.Answers.{placeIn, numberIn};
+ghost use Rattle.text_digits.specs.Answers.{placeIn, valueIn};
 
 // The place after what was asked for.
 pub enum Place {
@@ -52,7 +52,7 @@ fn digit(b: u8) -> u64
 // Exactly `count` lowercase hexadecimal digits.
 pub fn hex(s: &[u8], start: usize, count: usize) -> Number
     requires { ⌜ count ≤ 16 ⌝ }
-    ensures { λ r. ⌜ numberIn (now (s .entry)) r ≡ hex count (drop start (now (s .entry))) ⌝ }
+    ensures { λ r. ⌜ valueIn (now (s .entry)) r ≡ hex count (drop start (now (s .entry))) ⌝ }
 {
     let mut v: u64 = 0;
     let mut at = start;
@@ -76,7 +76,7 @@ pub fn hex(s: &[u8], start: usize, count: usize) -> Number
 // keeps it from wrapping.
 pub fn decimal(s: &[u8], start: usize, most: u64) -> Number
     requires { ⌜ 9 ≤ most ⌝ }
-    ensures { λ r. ⌜ numberIn (now (s .entry)) r ≡ decimal most (drop start (now (s .entry))) ⌝ }
+    ensures { λ r. ⌜ valueIn (now (s .entry)) r ≡ decimal most (drop start (now (s .entry))) ⌝ }
 {
     if s.len() <= start {
         return Number::Broken;

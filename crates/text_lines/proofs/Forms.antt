@@ -9,10 +9,14 @@ use Rattle.text_digits.specs.Read.{Read, got, broken, after}
 pub broken-got : {A : Type 0} {P : Type 0} {v : A} {r : List ℕ} → broken ≡ got v r → P
 broken-got {A} {P} {v} {r} e = let z : _≡_ {A = ℕ} 0 1 = cc in absurd (omega arith)
 
+-- the value that was read is the one that is
+pub got-value : {A : Type 0} {v w : A} {s r : List ℕ} → got v s ≡ got w r → v ≡ w
+got-value {A} {v} {w} {s} {r} e = cc
+
 -- a test that picked a value was true, and the value is the picked one
-pub picked : {A : Type 0} (t : Bool) (x : Read A) {v : A} {r : List ℕ} → cond t x broken ≡ got v r → (t ≡ true) × (x ≡ got v r)
-picked true x e = (refl, e)
-picked false x e = broken-got e
+pub test-picked : {A : Type 0} (t : Bool) (x : Read A) {v : A} {r : List ℕ} → cond t x broken ≡ got v r → (t ≡ true) × (x ≡ got v r)
+test-picked true x e = (refl, e)
+test-picked false x e = broken-got e
 
 -- one of two was picked
 pub either : {P : Type 0} {A : Type 0} (t : Bool) (x y z : A) → (x ≡ z → P) → (y ≡ z → P) → cond t x y ≡ z → P

@@ -2,7 +2,7 @@
 use Prim.Native.Nat.{ℕ}
 use mathlib.Core.List.{List, [], _∷_, _++_}
 use mathlib.Core.Bool.{cond}
-use lib.ListN.{getD}
+use lib.ListN.{length, drop, getD}
 use lib.Dec.{eqb}
 use lib.Ieee.{Float, binary32, ofBits}
 use Rattle.dsl.specs.declared.knobs.Adsr.{Adsr}
@@ -37,6 +37,20 @@ unfoldable pub fields : List ℕ → List ℕ → Read (List ℕ)
 fields [] s = got [] s
 fields (k ∷ ks) s = after (field k s) (λ v rest. before (v ∷ []) (fields ks rest))
 
+-- what comes of a form that was read, and nothing of a broken one
+abbrev pub whereRead : {A : Type 0} → Read A → (A → List ℕ → List ℕ) → List ℕ
+whereRead (got v s) f = f v s
+whereRead broken f = []
+
+-- the values of the fields before the first that is not of its kind
+unfoldable pub leading : List ℕ → List ℕ → List ℕ
+leading [] s = []
+leading (k ∷ ks) s = whereRead (field k s) (λ v rest. v ∷ leading ks rest)
+
+-- what a lent slice holds once some values are stored at its start: after them what it held
+abbrev pub storedIn : List ℕ → List ℕ → List ℕ
+storedIn vs held = vs ++ drop (length vs) held
+
 -- the fields that end a line
 unfoldable pub ending : List ℕ → List ℕ → Read (List ℕ)
 ending ks s = after (fields ks s) (λ vs rest. after (byte newline rest) (λ _ next. got vs next))
@@ -44,6 +58,9 @@ ending ks s = after (fields ks s) (λ vs rest. after (byte newline rest) (λ _ n
 -- a letter and the fields
 unfoldable pub line : ℕ → List ℕ → List ℕ → Read (List ℕ)
 line letter ks s = after (byte letter s) (λ _ rest. ending ks rest)
+
+abbrev pub leadingLine : ℕ → List ℕ → List ℕ → List ℕ
+leadingLine letter ks s = whereRead (byte letter s) (λ _ rest. leading ks rest)
 
 -- the f32 of a float's bits
 abbrev pub floatAt : List ℕ → ℕ → Float
@@ -77,8 +94,8 @@ lineG s =
 abbrev pub formE : List ℕ
 formE = float ∷ float ∷ float ∷ float ∷ float ∷ []
 
-abbrev pub envOf : List ℕ → Adsr
-envOf vs = record { a = floatAt vs 0; d = floatAt vs 1; s = floatAt vs 2; r = floatAt vs 3; punch = floatAt vs 4 }
+abbrev pub envOfBits : List ℕ → Adsr
+envOfBits vs = record { a = floatAt vs 0; d = floatAt vs 1; s = floatAt vs 2; r = floatAt vs 3; punch = floatAt vs 4 }
 
 unfoldable pub lineE : List ℕ → Read Adsr
-lineE s = after (line 69 formE s) (λ vs rest. got (envOf vs) rest)
+lineE s = after (line 69 formE s) (λ vs rest. got (envOfBits vs) rest)

@@ -3,8 +3,8 @@
 ghost use mathlib.Core.Path.{_≡_};
 ghost use Prim.Native.Nat.{_≤_};
 ghost use lib.ListN.{length, take, drop};
-ghost use Rattle.text_lines.specs.Line.{value, field, fields, ending, line, floatAt, lineS, seedField, drawField, lineG, lineE};
-ghost use Rattle.text_digits.specs.Answers.{placeIn, numberIn};
+ghost use Rattle.text_lines.specs.Line.{value, field, fields, ending, line, leading, storedIn, leadingLine, floatAt, lineS, seedField, drawField, lineG, lineE};
+ghost use Rattle.text_digits.specs.Answers.{placeIn, valueIn};
 ghost use Rattle.text_lines.specs.Answers.{numbersIn, openingIn, envIn};
 use dsl::Adsr;
 use text_digits::Number;
@@ -19,7 +19,7 @@ pub const FLOAT: u8 = 8;
 pub const WORD: u8 = 32;
 
 fn value(s: &[u8], at: usize, kind: u8) -> Number
-    ensures { λ r. ⌜ numberIn (now (s .entry)) r ≡ value kind (drop at (now (s .entry))) ⌝ }
+    ensures { λ r. ⌜ valueIn (now (s .entry)) r ≡ value kind (drop at (now (s .entry))) ⌝ }
 {
     if kind == FLOAT {
         return hex(s, at, 8);
@@ -29,7 +29,7 @@ fn value(s: &[u8], at: usize, kind: u8) -> Number
 
 // A tab and a value.
 pub fn field(s: &[u8], at: usize, kind: u8) -> Number
-    ensures { λ r. ⌜ numberIn (now (s .entry)) r ≡ field kind (drop at (now (s .entry))) ⌝ }
+    ensures { λ r. ⌜ valueIn (now (s .entry)) r ≡ field kind (drop at (now (s .entry))) ⌝ }
 {
     let Place::At(next) = expect(s, at, b'\t') else {
         return Number::Broken;
@@ -37,10 +37,12 @@ pub fn field(s: &[u8], at: usize, kind: u8) -> Number
     value(s, next, kind)
 }
 
-// A field of each of `kinds`, their values into `values`.
+// A field of each of `kinds`, their values into `values`: those before the first that is not of its
+// kind are stored.
 fn fields(s: &[u8], start: usize, kinds: &[u8], values: &mut [u32]) -> Place
     requires { ⌜ length (now kinds) ≤ length (now values) ⌝ }
     ensures { λ r. ⌜ placeIn (now (s .entry)) (take (length (now (kinds .entry))) (now (values .exit))) r ≡ fields (now (kinds .entry)) (drop start (now (s .entry))) ⌝ }
+    ensures stored { λ _. ⌜ now (values .exit) ≡ storedIn (leading (now (kinds .entry)) (drop start (now (s .entry)))) (now (values .entry)) ⌝ }
 {
     let mut at = start;
     let mut i: usize = 0;
@@ -59,6 +61,7 @@ fn fields(s: &[u8], start: usize, kinds: &[u8], values: &mut [u32]) -> Place
 pub fn ending(s: &[u8], at: usize, kinds: &[u8], values: &mut [u32]) -> Place
     requires { ⌜ length (now kinds) ≤ length (now values) ⌝ }
     ensures { λ r. ⌜ placeIn (now (s .entry)) (take (length (now (kinds .entry))) (now (values .exit))) r ≡ ending (now (kinds .entry)) (drop at (now (s .entry))) ⌝ }
+    ensures stored { λ _. ⌜ now (values .exit) ≡ storedIn (leading (now (kinds .entry)) (drop at (now (s .entry)))) (now (values .entry)) ⌝ }
 {
     let Place::At(last) = fields(s, at, kinds, values) else {
         return Place::Broken;
@@ -70,6 +73,7 @@ pub fn ending(s: &[u8], at: usize, kinds: &[u8], values: &mut [u32]) -> Place
 pub fn line(s: &[u8], at: usize, letter: u8, kinds: &[u8], values: &mut [u32]) -> Place
     requires { ⌜ length (now kinds) ≤ length (now values) ⌝ }
     ensures { λ r. ⌜ placeIn (now (s .entry)) (take (length (now (kinds .entry))) (now (values .exit))) r ≡ line letter (now (kinds .entry)) (drop at (now (s .entry))) ⌝ }
+    ensures stored { λ _. ⌜ now (values .exit) ≡ storedIn (leadingLine letter (now (kinds .entry)) (drop at (now (s .entry)))) (now (values .entry)) ⌝ }
 {
     let Place::At(next) = expect(s, at, letter) else {
         return Place::Broken;
@@ -133,7 +137,7 @@ pub enum LineG {
 }
 
 fn seed_field(s: &[u8], at: usize) -> Number
-    ensures { λ r. ⌜ numberIn (now (s .entry)) r ≡ seedField (drop at (now (s .entry))) ⌝ }
+    ensures { λ r. ⌜ valueIn (now (s .entry)) r ≡ seedField (drop at (now (s .entry))) ⌝ }
 {
     let Place::At(next) = expect(s, at, b'\t') else {
         return Number::Broken;
@@ -142,7 +146,7 @@ fn seed_field(s: &[u8], at: usize) -> Number
 }
 
 fn draw_field(s: &[u8], at: usize) -> Number
-    ensures { λ r. ⌜ numberIn (now (s .entry)) r ≡ drawField (drop at (now (s .entry))) ⌝ }
+    ensures { λ r. ⌜ valueIn (now (s .entry)) r ≡ drawField (drop at (now (s .entry))) ⌝ }
 {
     let Place::At(next) = expect(s, at, b'\t') else {
         return Number::Broken;

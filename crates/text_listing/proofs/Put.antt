@@ -7,7 +7,7 @@ use native.Mathlib.Omega.{arith}
 use native.Mathlib.Nat.{zero-add}
 use native.Mathlib.Numerals.{add-one}
 use lib.ListN.{length, take, drop, set, length-append, length-drop, take-append-drop}
-use lib.Seq.{set-split, take-at, drop-at, drop-append-add, drop-drop, length-take-le}
+use lib.Seq.{set-split, take-at, drop-append-add, drop-drop, length-take-le}
 use Rattle.text_listing.specs.Printed.{put, Room, Printed}
 
 pub printed-one : (b at : ℕ) (out : List ℕ) → Room (b ∷ []) at out → Printed (b ∷ []) at out (at + 1) (set out at b)
@@ -76,7 +76,8 @@ module _ (a b c : List ℕ) {at : ℕ} {out : List ℕ} (h : Room (a ++ (b ++ c)
     pub three : {k : ℕ} {out₃ : List ℕ} → Printed c m out₂ k out₃ → Printed (a ++ (b ++ c)) at out k out₃
     three r = printed-both a (b ++ c) h p (printed-both b c (room-next a (b ++ c) h p) q r)
 
-module _ (a b c d : List ℕ) {at : ℕ} {out : List ℕ} (h : Room (a ++ (b ++ (c ++ d))) at out) {n : ℕ} {out₁ : List ℕ} (p : Printed a at out n out₁) {m : ℕ} {out₂ : List ℕ} (q : Printed b n out₁ m out₂) where
+module _ (a b c d : List ℕ) {at : ℕ} {out : List ℕ} (h : Room (a ++ (b ++ (c ++ d))) at out) {n : ℕ} {out₁ : List ℕ} (p : Printed a at out n out₁)
+    {m : ℕ} {out₂ : List ℕ} (q : Printed b n out₁ m out₂) where
   pub part-room : Room c m out₂
   part-room = room-first c d (third-room a b (c ++ d) h p q)
 
@@ -95,6 +96,3 @@ module _ {text : List ℕ} {out : List ℕ} {n : ℕ} {out₁ : List ℕ} (p : P
 
   pub printed-text : take n out₁ ≡ text
   printed-text = rw whole (take-at text (drop n out) n (sym (p .after ∙ omega arith)))
-
-  pub printed-rest : drop n out₁ ≡ drop n out
-  printed-rest = rw whole (drop-at text (drop n out) n (sym (p .after ∙ omega arith)))

@@ -6,24 +6,24 @@ use lib.ListN.{length, getD}
 use lib.Ieee.{Float, nan, isNan, binary32, toBits}
 use Rattle.text_listing.specs.Digits.{hexText, decimalText}
 
-abbrev pub newline : List ℕ
-newline = 10 ∷ []
+abbrev pub lineEnd : List ℕ
+lineEnd = 10 ∷ []
 
 -- a tab and a number
-abbrev pub tabbed : List ℕ → List ℕ
-tabbed number = 9 ∷ number
+abbrev pub tabbedText : List ℕ → List ℕ
+tabbedText number = 9 ∷ number
 
 -- "G with the end state and draw count"
-abbrev pub lineG : ℕ → ℕ → List ℕ
-lineG state draw = (71 ∷ []) ++ (tabbed (hexText 16 state) ++ (tabbed (decimalText draw) ++ newline))
+abbrev pub printedG : ℕ → ℕ → List ℕ
+printedG state draw = (71 ∷ []) ++ (tabbedText (hexText 16 state) ++ (tabbedText (decimalText draw) ++ lineEnd))
 
 -- "one F line a frame, index and bits"
-abbrev pub lineF : ℕ → ℕ → List ℕ
-lineF index bits = (70 ∷ []) ++ (tabbed (decimalText index) ++ (tabbed (hexText 8 bits) ++ newline))
+abbrev pub printedF : ℕ → ℕ → List ℕ
+printedF index bits = (70 ∷ []) ++ (tabbedText (decimalText index) ++ (tabbedText (hexText 8 bits) ++ lineEnd))
 
 -- "R, a tab, the number, a newline"
-abbrev pub lineR : ℕ → List ℕ
-lineR number = (82 ∷ []) ++ (tabbed (decimalText number) ++ newline)
+abbrev pub printedR : ℕ → List ℕ
+printedR number = (82 ∷ []) ++ (tabbedText (decimalText number) ++ lineEnd)
 
 -- "A NaN frame is printed as 7fc00000."
 unfoldable pub frameBits : Float → ℕ
@@ -32,8 +32,8 @@ frameBits x = cond (isNan x) 0x7fc00000 (toBits binary32 x)
 -- the lines of the first n frames
 unfoldable pub frameLines : ℕ → List Float → List ℕ
 frameLines zero frames = []
-frameLines (suc n) frames = frameLines n frames ++ lineF n (frameBits (getD frames n nan))
+frameLines (suc n) frames = frameLines n frames ++ printedF n (frameBits (getD frames n nan))
 
 -- what an accepted score prints: "G with the end state and draw count, then one F line a frame"
 abbrev pub listingOf : ℕ → ℕ → List Float → List ℕ
-listingOf state draw frames = lineG state draw ++ frameLines (length frames) frames
+listingOf state draw frames = printedG state draw ++ frameLines (length frames) frames

@@ -3,7 +3,7 @@ ghost use mathlib.Core.Path.{_≡_};
 ghost use mathlib.Core.List.{[], _∷_};
 ghost use Prim.Native.Nat.{_<_};
 ghost use Rattle.text_listing.specs.Digits.{digitFor, hexText, decimalText};
-ghost use Rattle.text_listing.specs.Lines.{tabbed};
+ghost use Rattle.text_listing.specs.Lines.{tabbedText};
 ghost use Rattle.text_listing.specs.Printed.{Room, Printed};
 
 // The byte of a digit.
@@ -17,7 +17,7 @@ fn digit_for(v: u64) -> u8
     (v + 87) as u8
 }
 
-pub fn put_byte(out: &mut [u8], at: usize, b: u8) -> usize
+pub(crate) fn put_byte(out: &mut [u8], at: usize, b: u8) -> usize
     requires { ⌜ Room (b ∷ []) at (now out) ⌝ }
     ensures { λ r. ⌜ Printed (b ∷ []) at (now (out .entry)) r (now (out .exit)) ⌝ }
 {
@@ -50,18 +50,18 @@ fn put_decimal(out: &mut [u8], at: usize, v: u64) -> usize
 }
 
 // A tab and hexadecimal digits.
-pub fn put_hex_field(out: &mut [u8], at: usize, count: usize, v: u64) -> usize
-    requires { ⌜ Room (tabbed (hexText count v)) at (now out) ⌝ }
-    ensures { λ r. ⌜ Printed (tabbed (hexText count v)) at (now (out .entry)) r (now (out .exit)) ⌝ }
+pub(crate) fn put_hex_field(out: &mut [u8], at: usize, count: usize, v: u64) -> usize
+    requires { ⌜ Room (tabbedText (hexText count v)) at (now out) ⌝ }
+    ensures { λ r. ⌜ Printed (tabbedText (hexText count v)) at (now (out .entry)) r (now (out .exit)) ⌝ }
 {
     let next = put_byte(out, at, b'\t');
     put_hex(out, next, count, v)
 }
 
 // A tab and a decimal number.
-pub fn put_decimal_field(out: &mut [u8], at: usize, v: u64) -> usize
-    requires { ⌜ Room (tabbed (decimalText v)) at (now out) ⌝ }
-    ensures { λ r. ⌜ Printed (tabbed (decimalText v)) at (now (out .entry)) r (now (out .exit)) ⌝ }
+pub(crate) fn put_decimal_field(out: &mut [u8], at: usize, v: u64) -> usize
+    requires { ⌜ Room (tabbedText (decimalText v)) at (now out) ⌝ }
+    ensures { λ r. ⌜ Printed (tabbedText (decimalText v)) at (now (out .entry)) r (now (out .exit)) ⌝ }
 {
     let next = put_byte(out, at, b'\t');
     put_decimal(out, next, v)

@@ -2,7 +2,7 @@
 ghost use mathlib.Core.Path.{_≡_};
 ghost use Prim.Native.Nat.{_≤_};
 ghost use lib.ListN.{length};
-ghost use Rattle.text_listing.specs.Lines.{lineG, lineF, lineR, frameBits, frameLines, listingOf};
+ghost use Rattle.text_listing.specs.Lines.{printedG, printedF, printedR, frameBits, frameLines, listingOf};
 ghost use Rattle.text_listing.specs.Printed.{Room, Printed, FramesRoom};
 use crate::digits::put_byte;
 use crate::digits::put_decimal_field;
@@ -10,8 +10,8 @@ use crate::digits::put_hex_field;
 
 // The generator's end state and the draw count.
 fn put_opening(out: &mut [u8], at: usize, state: u64, draw: u64) -> usize
-    requires { ⌜ Room (lineG state draw) at (now out) ⌝ }
-    ensures { λ r. ⌜ Printed (lineG state draw) at (now (out .entry)) r (now (out .exit)) ⌝ }
+    requires { ⌜ Room (printedG state draw) at (now out) ⌝ }
+    ensures { λ r. ⌜ Printed (printedG state draw) at (now (out .entry)) r (now (out .exit)) ⌝ }
 {
     let first = put_byte(out, at, b'G');
     let second = put_hex_field(out, first, 16, state);
@@ -21,8 +21,8 @@ fn put_opening(out: &mut [u8], at: usize, state: u64, draw: u64) -> usize
 
 // A frame's index and bits.
 fn put_frame(out: &mut [u8], at: usize, index: usize, bits: u32) -> usize
-    requires { ⌜ Room (lineF index bits) at (now out) ⌝ }
-    ensures { λ r. ⌜ Printed (lineF index bits) at (now (out .entry)) r (now (out .exit)) ⌝ }
+    requires { ⌜ Room (printedF index bits) at (now out) ⌝ }
+    ensures { λ r. ⌜ Printed (printedF index bits) at (now (out .entry)) r (now (out .exit)) ⌝ }
 {
     let first = put_byte(out, at, b'F');
     let second = put_decimal_field(out, first, index as u64);
@@ -66,7 +66,7 @@ pub fn put_listing(out: &mut [u8], state: u64, draw: u64, frames: &[f32]) -> usi
 // The line of a refused score, from the first byte on.
 pub fn put_refusal(out: &mut [u8], number: u32) -> usize
     requires { ⌜ 13 ≤ length (now out) ⌝ }
-    ensures { λ r. ⌜ Printed (lineR number) 0 (now (out .entry)) r (now (out .exit)) ⌝ }
+    ensures { λ r. ⌜ Printed (printedR number) 0 (now (out .entry)) r (now (out .exit)) ⌝ }
 {
     let first = put_byte(out, 0, b'R');
     let last = put_decimal_field(out, first, number as u64);

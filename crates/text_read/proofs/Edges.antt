@@ -12,7 +12,7 @@ use Rattle.dsl.specs.declared.knobs.SeqVoice.{SeqVoice}
 use Rattle.text_digits.specs.Read.{got, broken, digitOf, byte, hexFrom, digitsFrom, fitting, decimal}
 use Rattle.text_lines.specs.Line.{value, field, fields, before, ending, line, lineS, seedField, drawField, lineG, lineE}
 use Rattle.text_voice_line.specs.Voice.{knobCount, voiceOf, voiceWith, soundOf, lineV}
-use Rattle.text_read.specs.Notes.{orElse, note, notesUpTo, notesOf}
+use Rattle.text_read.specs.Notes.{eitherForm, lineN, notesUpTo, notesOf}
 use Rattle.text_read.specs.Text.{Text, textOf}
 
 abbrev bytes : String → List ℕ
@@ -67,10 +67,12 @@ pub reads :
     -- no notes
     × Reads (score ∷ opening ∷ envelope ∷ voicing ∷ []) saw []
     -- a note that stops after pitch, and the largest number of 32 bits
-    × Reads (score ∷ opening ∷ envelope ∷ voicing ∷ "N\t0\t1\t00000000\tbf800000\n" ∷ "N\t4294967295\t12\t7fc00001\n" ∷ []) saw (0 ∷ 1 ∷ 0 ∷ 0 ∷ 0xbf800000 ∷ 4294967295 ∷ 12 ∷ 0 ∷ 0x7fc00001 ∷ 0x3f800000 ∷ [])
+    × Reads (score ∷ opening ∷ envelope ∷ voicing ∷ "N\t0\t1\t00000000\tbf800000\n" ∷ "N\t4294967295\t12\t7fc00001\n" ∷ []) saw
+    (0 ∷ 1 ∷ 0 ∷ 0 ∷ 0xbf800000 ∷ 4294967295 ∷ 12 ∷ 0 ∷ 0x7fc00001 ∷ 0x3f800000 ∷ [])
     -- knobs, of which those of the other sets are 0
     × Reads (score ∷ opening ∷ envelope ∷ "V\t5\t3f000000\t40000000\t3f800000\t3dcccccd\n" ∷ []) (voiceWith Fm (0x40000000 ∷ 0x3f800000 ∷ 0x3dcccccd ∷ []) [] [] []) []
-unfolding digitOf byte hexFrom digitsFrom fitting decimal value field fields before ending line lineS seedField drawField lineG lineE knobCount voiceOf soundOf lineV orElse note notesUpTo notesOf textOf waveAt
+unfolding digitOf byte hexFrom digitsFrom fitting decimal value field fields before ending line lineS seedField drawField lineG lineE
+    knobCount voiceOf soundOf lineV eitherForm lineN notesUpTo notesOf textOf waveAt
 reads = (refl, refl, refl, refl)
 
 abbrev Breaks : List String → Type 0
@@ -100,5 +102,6 @@ pub breaks :
     × Breaks (score ∷ opening ∷ envelope ∷ "V\t18\t3f000000\n" ∷ [])
     × Breaks (score ∷ opening ∷ envelope ∷ "V\t5\t3f000000\t40000000\t3f800000\n" ∷ [])
     × Breaks (score ∷ opening ∷ envelope ∷ "V\t2\t3f000000\t00000000\n" ∷ [])
-unfolding digitOf byte hexFrom digitsFrom fitting decimal value field fields before ending line lineS seedField drawField lineG lineE knobCount voiceOf soundOf lineV orElse note notesUpTo notesOf textOf waveAt
+unfolding digitOf byte hexFrom digitsFrom fitting decimal value field fields before ending line lineS seedField drawField lineG lineE
+    knobCount voiceOf soundOf lineV eitherForm lineN notesUpTo notesOf textOf waveAt
 breaks = (refl, refl, refl, refl, refl, refl, refl, refl, refl, refl, refl, refl, refl, refl, refl, refl, refl, refl)

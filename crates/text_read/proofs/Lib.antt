@@ -1,4 +1,5 @@
 pub mod Shorter
+pub mod Fives
 pub mod Gather
 pub mod Texts
 pub mod Said

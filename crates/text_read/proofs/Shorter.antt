@@ -8,11 +8,11 @@ use lib.ListN.{length, drop, getD, length-drop}
 use lib.Dec.{ltb, leb, eqb}
 use Rattle.text_digits.specs.Read.{Read, got, broken, after, digitOf, byte, hexFrom, digitsFrom, fitting, decimal}
 use Rattle.text_lines.specs.Line.{value, field, fields, before, ending, line}
-use Rattle.text_read.specs.Notes.{note, notesUpTo, notesOf, orElse, wordsOf, formN, formShort, gain1}
+use Rattle.text_read.specs.Notes.{lineN, notesUpTo, notesOf, eitherForm, wordsOf, formN, formShort, gain1}
 use Rattle.text_read.specs.Answers.{noteIn}
 use Rattle.text_read.specs.declared.notes.LineN.{LineN}
 use Rattle.text_read.specs.declared.notes.LineN.the-variants.{At}
-use Rattle.text_lines.proofs.Forms.{broken-got, picked, either, parted, after-same}
+use Rattle.text_lines.proofs.Forms.{broken-got, test-picked, either, parted, after-same}
 
 -- the bytes that were left are those that are
 same-left : {A : Type 0} {v w : A} {s r : List ℕ} → got v s ≡ got w r → length r ≡ length s
@@ -21,14 +21,14 @@ same-left {A} {v} {w} {s} {r} e = let z : s ≡ r = cc in ap length (sym z)
 byte-shorter : (b : ℕ) (s : List ℕ) {v : ℕ} {r : List ℕ} → byte b s ≡ got v r → length r < length s
 unfolding byte
 byte-shorter b [] e = broken-got e
-byte-shorter b (x ∷ s) e = let z = same-left (picked (eqb x b) (got b s) e .1) in omega arith
+byte-shorter b (x ∷ s) e = let z = same-left (test-picked (eqb x b) (got b s) e .1) in omega arith
 
 hex-shorter : (k v : ℕ) (s : List ℕ) {w : ℕ} {r : List ℕ} → hexFrom k v s ≡ got w r → length r ≤ length s
 unfolding hexFrom
 hex-shorter zero v s e = let z = same-left e in omega arith
 hex-shorter (suc k) v [] e = broken-got e
 hex-shorter (suc k) v (b ∷ s) e =
-    let l = hex-shorter k (v * 16 + digitOf b) s (picked (ltb (digitOf b) 16) (hexFrom k (v * 16 + digitOf b) s) e .1) in
+    let l = hex-shorter k (v * 16 + digitOf b) s (test-picked (ltb (digitOf b) 16) (hexFrom k (v * 16 + digitOf b) s) e .1) in
     omega arith
 
 digits-shorter : (v : ℕ) (s : List ℕ) {w : ℕ} {r : List ℕ} → digitsFrom v s ≡ got w r → length r ≤ length s
@@ -40,7 +40,7 @@ digits-shorter v (b ∷ s) {w} {r} e =
 
 fitting-same : (most : ℕ) (x : Read ℕ) {w : ℕ} {r : List ℕ} → fitting most x ≡ got w r → x ≡ got w r
 unfolding fitting
-fitting-same most (got v s) e = picked (leb v most) (got v s) e .1
+fitting-same most (got v s) e = test-picked (leb v most) (got v s) e .1
 fitting-same most broken e = broken-got e
 
 decimal-shorter : (most : ℕ) (s : List ℕ) {w : ℕ} {r : List ℕ} → decimal most s ≡ got w r → length r ≤ length s
@@ -49,7 +49,7 @@ decimal-shorter most [] e = broken-got e
 decimal-shorter most (b ∷ s) {w} {r} e =
     let digits = digitsFrom (digitOf b) s in
     either (eqb b 48) (got 0 s) _ (got w r) (λ p. let z = same-left p in omega arith)
-    (λ p. let l = digits-shorter (digitOf b) s (fitting-same most digits (picked (ltb (digitOf b) 10) (fitting most digits) p .1)) in omega arith) e
+    (λ p. let l = digits-shorter (digitOf b) s (fitting-same most digits (test-picked (ltb (digitOf b) 10) (fitting most digits) p .1)) in omega arith) e
 
 value-shorter : (kind : ℕ) (s : List ℕ) {w : ℕ} {r : List ℕ} → value kind s ≡ got w r → length r ≤ length s
 unfolding value
@@ -96,8 +96,8 @@ line-shorter letter ks s e =
     let m = ending-shorter ks (p .rest) (p .second) in
     omega arith
 
-or-else : {P : Type 0} {A : Type 0} (x y : Read A) {v : A} {r : List ℕ} → (x ≡ got v r → P) → (y ≡ got v r → P) → orElse x y ≡ got v r → P
-unfolding orElse
+pub or-else : {P : Type 0} {A : Type 0} (x y : Read A) {v : A} {r : List ℕ} → (x ≡ got v r → P) → (y ≡ got v r → P) → eitherForm x y ≡ got v r → P
+unfolding eitherForm
 or-else (got u s) y f g e = f e
 or-else broken y f g e = g e
 
@@ -109,8 +109,8 @@ made-shorter letter ks s make e =
     let z = same-left (p .second) in
     omega arith
 
-pub note-shorter : (s : List ℕ) {ws r : List ℕ} → note s ≡ got ws r → length r < length s
-unfolding note
+pub note-shorter : (s : List ℕ) {ws r : List ℕ} → lineN s ≡ got ws r → length r < length s
+unfolding lineN
 note-shorter s e =
     or-else _ _ (λ p. made-shorter 78 formN s (λ vs. wordsOf vs (getD vs 3 0)) p) (λ p. made-shorter 78 formShort s (λ vs. wordsOf vs gain1) p) e
 
@@ -124,20 +124,20 @@ enough (suc j) zero [] h l = refl
 enough (suc j) zero (b ∷ s) h l = absurd (omega arith)
 enough (suc j) (suc k) [] h l = refl
 enough (suc j) (suc k) (b ∷ s) h l =
-    after-same (note (b ∷ s)) (λ ws rest. before ws (notesUpTo j rest)) (λ ws rest. before ws (notesUpTo k rest))
+    after-same (lineN (b ∷ s)) (λ ws rest. before ws (notesUpTo j rest)) (λ ws rest. before ws (notesUpTo k rest))
     (λ ws rest e. let m = note-shorter (b ∷ s) e in ap (before ws) (enough j k rest (omega arith) (omega arith)))
 
 pub notes-none : notesOf [] ≡ got [] []
 unfolding notesOf notesUpTo
 notes-none = refl
 
-pub notes-line : (b : ℕ) (s : List ℕ) → notesOf (b ∷ s) ≡ after (note (b ∷ s)) (λ ws rest. before ws (notesOf rest))
+pub notes-line : (b : ℕ) (s : List ℕ) → notesOf (b ∷ s) ≡ after (lineN (b ∷ s)) (λ ws rest. before ws (notesOf rest))
 unfolding notesOf notesUpTo
 notes-line b s =
-    after-same (note (b ∷ s)) (λ ws rest. before ws (notesUpTo (length s) rest)) (λ ws rest. before ws (notesUpTo (length rest) rest))
+    after-same (lineN (b ∷ s)) (λ ws rest. before ws (notesUpTo (length s) rest)) (λ ws rest. before ws (notesUpTo (length rest) rest))
     (λ ws rest e. let m = note-shorter (b ∷ s) e in ap (before ws) (enough (length s) (length rest) rest (omega arith) (omega arith)))
 
-pub note-later : (s : List ℕ) (at : ℕ) {r : LineN} {a b p q next : ℕ} → r ≡ At a b p q next → noteIn s r ≡ note (drop at s) → length s - next < length s - at
+pub note-later : (s : List ℕ) (at : ℕ) {r : LineN} {a b p q next : ℕ} → r ≡ At a b p q next → noteIn s r ≡ lineN (drop at s) → length s - next < length s - at
 note-later s at {r} {a} {b} {p} {q} {next} told e =
     let l = note-shorter (drop at s) (sym (rw told at e)) in
     let m = length-drop at s in

@@ -6,7 +6,7 @@ use lib.ListN.{length}
 use Rattle.text_digits.specs.Read.{Read, got, broken}
 use Rattle.text_lines.specs.Line.{before, lineS, lineG, lineE}
 use Rattle.text_voice_line.specs.Voice.{lineV}
-use Rattle.text_read.specs.Notes.{note, notesUpTo, notesOf}
+use Rattle.text_read.specs.Notes.{lineN, notesUpTo, notesOf}
 use Rattle.text_read.specs.Text.{Text, textOf}
 use Rattle.text_lines.proofs.Forms.{broken-got, parted}
 
@@ -21,7 +21,7 @@ notes-whole zero [] {ws} {r} e = cc
 notes-whole zero (b ∷ s) e = broken-got e
 notes-whole (suc most) [] {ws} {r} e = cc
 notes-whole (suc most) (b ∷ s) e =
-    let p = parted (note (b ∷ s)) (λ ws rest. before ws (notesUpTo most rest)) e in
+    let p = parted (lineN (b ∷ s)) (λ ws rest. before ws (notesUpTo most rest)) e in
     before-rest (p .value) (notesUpTo most (p .rest)) (λ us q d. notes-whole most (p .rest) d) (p .second)
 
 pub text-whole : (s : List ℕ) {t : Text} {r : List ℕ} → textOf s ≡ got t r → r ≡ []

@@ -7,7 +7,7 @@ use Rattle.score.specs.declared.seq.Seq.{Seq}
 use Rattle.text_digits.specs.Read.{Read, got, broken, after}
 use Rattle.text_lines.specs.Line.{lineS, lineG, lineE}
 use Rattle.text_voice_line.specs.Voice.{lineV}
-use Rattle.text_read.specs.Notes.{notesOf, countOf, Stored}
+use Rattle.text_read.specs.Notes.{notesOf, countOf, wordsAfter}
 use Rattle.text_lines.specs.declared.Numbers.{Numbers}
 use Rattle.text_voice_line.specs.declared.Sound.{Sound}
 use Rattle.text_read.specs.declared.text.TextScore.{TextScore}
@@ -45,19 +45,18 @@ textOf s =
     after (notesOf s₄) (λ ws rest. got (record { seq = seqOf a env v; n = a .n; seed = g .seed; draw = g .draw; notes = ws }) rest)))))
 
 -- what a reader of the text answers
-abbrev pub scoreOf : Text → TextScore
-scoreOf t = record { seq = t .seq; n = t .n; seed = t .seed; draw = t .draw; count = countOf (t .notes) }
+abbrev pub textScoreOf : Text → TextScore
+textScoreOf t = record { seq = t .seq; n = t .n; seed = t .seed; draw = t .draw; count = countOf (t .notes) }
 
 abbrev pub parsedOf : Read Text → Parsed
-parsedOf (got t rest) = Score (scoreOf t)
+parsedOf (got t rest) = Score (textScoreOf t)
 parsedOf broken = Broken
 
--- nothing is said of the lent slice where the form is broken
-abbrev pub NotesIn : Read Text → List ℕ → List ℕ → Type 0
-NotesIn (got t rest) notes₀ notes = Stored (t .notes) notes₀ notes
-NotesIn broken notes₀ notes = Unit {0}
+abbrev pub notesIn : Read Text → Read (List ℕ)
+notesIn (got t rest) = got (t .notes) rest
+notesIn broken = broken
 
 -- The contract of a reader of the text that is lent `notes₀` and leaves `notes`.
 pub record Parses (text notes₀ : List ℕ) (parsed : Parsed) (notes : List ℕ) : Type 0 where
   pub answer : parsed ≡ parsedOf (textOf text)
-  pub words : NotesIn (textOf text) notes₀ notes
+  pub words : notes ≡ wordsAfter (notesIn (textOf text)) notes₀

@@ -27,8 +27,9 @@ pub enum Parsed {
     Broken,
 }
 
-// Reads the whole of `text`, and stores the words of its notes, five a note, into `words` as far as
-// they fit. The form of every line is judged, also past that.
+// Reads the whole of `text`, and stores the words of its notes, five a note, at the start of `words`.
+// Where they do not fit, or the text is not of the form, no word changes; the form of every line is
+// judged all the same.
 pub fn read_score(text: &[u8], words: &mut [u32]) -> Parsed
     ensures { λ r. ⌜ Parses (now (text .entry)) (now (words .entry)) r (now (words .exit)) ⌝ }
 {

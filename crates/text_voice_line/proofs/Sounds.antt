@@ -54,6 +54,7 @@ module _ (place : ℕ) {k : ℕ} (e : k ≡ knobCount place) where
     unfolding soundOf
     sound-none h = rw (← d, ← (rw kinds-are at h))
 
-    pub sound-read : (bits : List ℕ) {z : List ℕ} → got (take (length (take k (replicate 10 float))) bits) z ≡ ending (take k (replicate 10 float)) y → got (record { voice = voiceOf place w (take k bits); duty = ofBits binary32 duty }) z ≡ soundOf place (Wave w) x
+    pub sound-read : (bits : List ℕ) {z : List ℕ} → got (take (length (take k (replicate 10 float))) bits) z ≡ ending (take k (replicate 10 float)) y
+        → got (record { voice = voiceOf place w (take k bits); duty = ofBits binary32 duty }) z ≡ soundOf place (Wave w) x
     unfolding soundOf
     sound-read bits h = rw (← d, ← (rw (← kinds-length, kinds-are) at h))

@@ -37,14 +37,14 @@ unfoldable pub knobCount : ℕ → ℕ
 knobCount place = cond (eqb place fmPlace) 3 (cond (eqb place pluckPlace) 4 (cond (eqb place pianoPlace) 5 (cond (eqb place bassPlace) 10 0)))
 
 -- The sets of some bits, in the order of node.rs; a knob that is not written has the bits 0.
-abbrev pub fmOf : List ℕ → FmKnobs
-fmOf bits = record { «fm_ratio» = floatAt bits 0; «fm_index» = floatAt bits 1; «fm_strike» = floatAt bits 2 }
+abbrev pub fmOfBits : List ℕ → FmKnobs
+fmOfBits bits = record { «fm_ratio» = floatAt bits 0; «fm_index» = floatAt bits 1; «fm_strike» = floatAt bits 2 }
 
-abbrev pub pluckOf : List ℕ → PluckKnobs
-pluckOf bits = record { «pluck_decay» = floatAt bits 0; «pluck_body» = floatAt bits 1; «pluck_pick» = floatAt bits 2; «pluck_tone» = floatAt bits 3 }
+abbrev pub pluckOfBits : List ℕ → PluckKnobs
+pluckOfBits bits = record { «pluck_decay» = floatAt bits 0; «pluck_body» = floatAt bits 1; «pluck_pick» = floatAt bits 2; «pluck_tone» = floatAt bits 3 }
 
-abbrev pub pianoOf : List ℕ → PianoKnobs
-pianoOf bits =
+abbrev pub pianoOfBits : List ℕ → PianoKnobs
+pianoOfBits bits =
     record {
       «piano_hammer» = floatAt bits 0;
       «piano_strike» = floatAt bits 1;
@@ -53,8 +53,8 @@ pianoOf bits =
       «piano_decay» = floatAt bits 4;
     }
 
-abbrev pub bassOf : List ℕ → BassKnobs
-bassOf bits =
+abbrev pub bassOfBits : List ℕ → BassKnobs
+bassOfBits bits =
     record {
       «bass_cutoff» = floatAt bits 0;
       «bass_env» = floatAt bits 1;
@@ -70,7 +70,7 @@ bassOf bits =
 
 -- the voice of the bits of each set
 abbrev pub voiceWith : SeqWave → List ℕ → List ℕ → List ℕ → List ℕ → SeqVoice
-voiceWith wave fm pluck piano bass = record { wave = wave; fm = fmOf fm; pluck = pluckOf pluck; piano = pianoOf piano; bass = bassOf bass }
+voiceWith wave fm pluck piano bass = record { wave = wave; fm = fmOfBits fm; pluck = pluckOfBits pluck; piano = pianoOfBits piano; bass = bassOfBits bass }
 
 -- the voice of a wave and its own knobs
 unfoldable pub voiceOf : ℕ → SeqWave → List ℕ → SeqVoice

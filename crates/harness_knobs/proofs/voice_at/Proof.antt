@@ -39,7 +39,10 @@ bass-knobs-requires c κs = search needs
 returns-3 : tie.Need-returns-3
 unfolding voiceAt
 returns-3 c =
-    if-true _ (eq-eqb _ _ (c .before .before .before .before .before .before .before .before .if1 .left)) (rw (← (c .before .before .before .before .before .before .before .at .ensures), c .before .before .before .before .before .wave .given .1, c .bass-knobs .ensures, c .before .piano-knobs .ensures, c .before .before .pluck-knobs .ensures, c .before .before .before .fm-knobs .ensures))
+    let b3 = c .before .before .before in
+    let b7 = b3 .before .before .before .before in
+    if-true _ (eq-eqb _ _ (b7 .before .if1 .left))
+    (rw (← (b7 .at .ensures), b3 .before .before .wave .given .1, c .bass-knobs .ensures, c .before .piano-knobs .ensures, c .before .before .pluck-knobs .ensures, b3 .fm-knobs .ensures))
 
 pub voice-at-spec : {M : Type 1} → statement M
 voice-at-spec =

@@ -39,7 +39,10 @@ same-length : tie.Need-same-length Inv-loop μ-loop
 same-length c = filled-length (c .before .loop .inv .0)
 
 returns : tie.Need-returns Inv-loop μ-loop
-returns c = let a = c .before .before .args in filled-part (c .before .loop .inv .0) (omega arith) ∙ ap (λ (l : List ℕ). l ++ drop (a .n) (a .reply .now)) (copied (a .page .now) (a .n) (c .before .before .pre .0))
+returns c =
+    let a = c .before .before .args in
+    let all = copied (a .page .now) (a .n) (c .before .before .pre .0) in
+    filled-part (c .before .loop .inv .0) (omega arith) ∙ ap (λ (l : List ℕ). l ++ drop (a .n) (a .reply .now)) all
 
 pub copy-bytes-spec : {M : Type 1} → statement M
 copy-bytes-spec =

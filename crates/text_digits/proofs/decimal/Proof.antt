@@ -43,13 +43,17 @@ digit-requires-2 : tie.Need-digit-requires-2 Inv-loop μ-loop
 digit-requires-2 c κs = search needs
 
 returns-4 : tie.Need-returns-4 Inv-loop μ-loop
-returns-4 c = digits-stop _ _ _ _ _ (c .before .before .before .loop-test .taken) (c .before .digit2 .ensures) (c .if4 .taken) (c .before .before .before .before .loop .inv .0) ∙ c .before .before .before .before .loop .inv .1
+returns-4 c =
+    let b3 = c .before .before .before in
+    digits-stop _ _ _ _ _ (b3 .loop-test .taken) (c .before .digit2 .ensures) (c .if4 .taken) (b3 .before .loop .inv .0) ∙ b3 .before .loop .inv .1
 
 sub-if5 : tie.Need-sub-if5 Inv-loop μ-loop
 sub-if5 c = omega arith
 
 returns-5 : tie.Need-returns-5 Inv-loop μ-loop
-returns-5 c = digits-over _ _ _ (omega arith) ∙ digits-more _ _ _ _ _ (c .before .before .before .before .loop-test .taken) (c .before .before .digit2 .ensures) (c .before .if4 .left) ∙ c .before .before .before .before .before .loop .inv .1
+returns-5 c =
+    let b4 = c .before .before .before .before in
+    digits-over _ _ _ (omega arith) ∙ digits-more _ _ _ _ _ (b4 .loop-test .taken) (c .before .before .digit2 .ensures) (c .before .if4 .left) ∙ b4 .before .loop .inv .1
 
 mul-v : tie.Need-mul-v Inv-loop μ-loop
 mul-v c = omega arith
@@ -64,7 +68,9 @@ loop-less : tie.Need-loop-less Inv-loop μ-loop
 loop-less c = search needs
 
 loop-again : tie.Need-loop-again Inv-loop μ-loop
-loop-again c = (omega arith, digits-more _ _ _ _ _ (c .before .before .before .before .loop-test .taken) (c .before .before .digit2 .ensures) (c .before .if4 .left) ∙ c .before .before .before .before .before .loop .inv .1)
+loop-again c =
+    let b4 = c .before .before .before .before in
+    (omega arith, digits-more _ _ _ _ _ (b4 .loop-test .taken) (c .before .before .digit2 .ensures) (c .before .if4 .left) ∙ b4 .before .loop .inv .1)
 
 returns-6 : tie.Need-returns-6 Inv-loop μ-loop
 returns-6 c = digits-end _ _ _ _ 0 (c .loop-test .left) (c .before .loop .inv .0) ∙ c .before .loop .inv .1

@@ -30,11 +30,15 @@ cast-result-2 c = search needs
 
 returns-4 : tie.Need-returns-4
 unfolding digitOf
-returns-4 c = if-false _ (le-ltb _ _ (c .before .before .before .if1 .left)) (if-false _ (le-ltb _ _ (c .before .before .if2 .left)) (if-false _ (le-ltb _ _ (c .before .if3 .left)) (if-true _ (lt-ltb _ _ (c .if4 .taken)) refl)))
+returns-4 c =
+    let b3 = c .before .before .before in
+    if-false _ (le-ltb _ _ (b3 .if1 .left)) (if-false _ (le-ltb _ _ (c .before .before .if2 .left)) (if-false _ (le-ltb _ _ (c .before .if3 .left)) (if-true _ (lt-ltb _ _ (c .if4 .taken)) refl)))
 
 returns-5 : tie.Need-returns-5
 unfolding digitOf
-returns-5 c = if-false _ (le-ltb _ _ (c .before .before .before .if1 .left)) (if-false _ (le-ltb _ _ (c .before .before .if2 .left)) (if-false _ (le-ltb _ _ (c .before .if3 .left)) (if-false _ (le-ltb _ _ (c .if4 .left)) refl)))
+returns-5 c =
+    let b3 = c .before .before .before in
+    if-false _ (le-ltb _ _ (b3 .if1 .left)) (if-false _ (le-ltb _ _ (c .before .before .if2 .left)) (if-false _ (le-ltb _ _ (c .before .if3 .left)) (if-false _ (le-ltb _ _ (c .if4 .left)) refl)))
 
 pub digit-spec : {M : Type 1} → statement M
 digit-spec =

@@ -28,7 +28,9 @@ digit-requires : tie.Need-digit-requires Inv-loop μ-loop
 digit-requires c κs = search needs
 
 returns-2 : tie.Need-returns-2 Inv-loop μ-loop
-returns-2 c = hex-bad _ _ _ _ (c .before .before .before .before .loop-test .taken) (c .before .before .before .if1 .left) (c .before .digit .ensures) (c .if2 .taken) ∙ c .before .before .before .before .before .loop .inv .2
+returns-2 c =
+    let b3 = c .before .before .before in
+    hex-bad _ _ _ _ (b3 .before .loop-test .taken) (b3 .if1 .left) (c .before .digit .ensures) (c .if2 .taken) ∙ b3 .before .before .loop .inv .2
 
 mul-v : tie.Need-mul-v Inv-loop μ-loop
 mul-v c = let r = hex-room _ _ _ (omega arith) (c .before .before .before .before .before .loop .inv .0) (c .if2 .left) in omega arith
@@ -48,7 +50,9 @@ loop-less c = search needs
 loop-again : tie.Need-loop-again Inv-loop μ-loop
 loop-again c =
     let b3 = c .before .before .before in
-    (hex-room _ _ _ (omega arith) (b3 .before .before .loop .inv .0) (c .if2 .left) .1, search needs, hex-more _ _ _ _ (b3 .before .loop-test .taken) (b3 .if1 .left) (c .before .digit .ensures) (c .if2 .left) ∙ b3 .before .before .loop .inv .2)
+    let inv = b3 .before .before .loop .inv in
+    let read = hex-more _ _ _ _ (b3 .before .loop-test .taken) (b3 .if1 .left) (c .before .digit .ensures) (c .if2 .left) ∙ inv .2 in
+    (hex-room _ _ _ (omega arith) (inv .0) (c .if2 .left) .1, search needs, read)
 
 returns-3 : tie.Need-returns-3 Inv-loop μ-loop
 returns-3 c = hex-all (c .before .loop .inv .1) (c .loop-test .left) ∙ c .before .loop .inv .2

@@ -7,18 +7,22 @@ use lib.ListN.{length, take, drop}
 use lib.ListN.{length-set}
 use Rattle.text_lines.specs.Line.{fields, before}
 use Rattle.text_lines.proofs.Small.{field-small}
-use Rattle.text_lines.proofs.Reading.{before-none, fields-bad, fields-more, fields-all}
+use Rattle.text_lines.proofs.Reading.{before-none, fields-bad, fields-more, fields-all, Led, led-none, led-bad, led-more, led-all}
 use Rattle.text_lines.proofs.fields.Statement.{statement}
 use Rattle.text_lines.proofs.fields.Tie as tie
 
 abbrev Inv-loop : tie.InvT-loop
-Inv-loop s start kinds values₀ at₀ i₀ values at i = (i ≤ length kinds) × (length values ≡ length values₀) × (before (take i values) (fields (drop i kinds) (drop at s)) ≡ fields kinds (drop start s))
+Inv-loop s start kinds values₀ at₀ i₀ values at i =
+    (i ≤ length kinds)
+    × (length values ≡ length values₀)
+    × (before (take i values) (fields (drop i kinds) (drop at s)) ≡ fields kinds (drop start s))
+    × Led kinds s start values₀ i at values
 
 abbrev μ-loop : tie.MeasureT-loop
 μ-loop s start kinds values₀ at₀ i₀ values at i = length kinds - i
 
 loop-holds : tie.Need-loop-holds Inv-loop μ-loop
-loop-holds c = (omega arith, refl, before-none _)
+loop-holds c = (omega arith, refl, before-none _, led-none)
 
 shared-slice-read-field : tie.Need-shared-slice-read-field Inv-loop μ-loop
 shared-slice-read-field c = search needs
@@ -39,7 +43,11 @@ returns : tie.Need-returns Inv-loop μ-loop
 returns c =
     let b4 = c .before .before .before .before in
     let b9 = b4 .before .before .before .before .before in
-    fields-bad _ _ (b9 .args .s .now) _ (b4 .before .loop .at) (b4 .loop-test .taken) (c .enum-told .given .1) (c .before .before .field .ensures) ∙ b4 .before .loop .inv .2
+    let is = c .before .before .field .ensures in
+    let told = c .enum-told .given .1 in
+    let inv = b4 .before .loop .inv in
+    let read = fields-bad _ _ (b9 .args .s .now) _ (b4 .before .loop .at) (b4 .loop-test .taken) told is ∙ inv .2 in
+    (read, led-bad (inv .3) (b4 .loop-test .taken) is told)
 
 cast-values : tie.Need-cast-values Inv-loop μ-loop
 cast-values c =
@@ -66,13 +74,19 @@ loop-again c =
     let b3 = c .before .before .before in
     let b6 = b3 .before .before .before in
     let b10 = b6 .before .before .before .before in
-    (omega arith, rw length-set (b6 .loop .inv .1), fields-more _ _ (b10 .args .s .now) _ (b6 .loop .at) (b3 .before .before .loop-test .taken) (omega arith) (c .before .v .given .1) (b3 .field .ensures) ∙ b6 .loop .inv .2)
+    let told = c .before .v .given .1 in
+    let inv = b6 .loop .inv in
+    let test = b3 .before .before .loop-test .taken in
+    let read = fields-more _ _ (b10 .args .s .now) _ (b6 .loop .at) test (omega arith) told (b3 .field .ensures) ∙ inv .2 in
+    (omega arith, rw length-set (inv .1), read, led-more (inv .3) test (b3 .field .ensures) (omega arith) told)
 
 same-length-2 : tie.Need-same-length-2 Inv-loop μ-loop
 same-length-2 c = search needs
 
 returns-2 : tie.Need-returns-2 Inv-loop μ-loop
-returns-2 c = fields-all _ _ _ (c .before .loop .inv .0) (c .loop-test .left) ∙ c .before .loop .inv .2
+returns-2 c =
+    let inv = c .before .loop .inv in
+    (fields-all _ _ _ (inv .0) (c .loop-test .left) ∙ inv .2, led-all (inv .3) (c .loop-test .left))
 
 pub fields-spec : {M : Type 1} → statement M
 fields-spec =

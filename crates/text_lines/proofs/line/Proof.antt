@@ -15,7 +15,9 @@ enum-told c = search needs
 
 returns : tie.Need-returns
 unfolding line
-returns c = rw (← (rw (c .enum-told .given .1) at (c .before .before .expect .ensures)))
+returns c =
+    let letter = rw (c .enum-told .given .1) at (c .before .before .expect .ensures) in
+    (rw (← letter), rw (← letter))
 
 ending-requires : tie.Need-ending-requires
 ending-requires c κs = search needs
@@ -25,7 +27,10 @@ same-length c = search needs
 
 returns-2 : tie.Need-returns-2
 unfolding line
-returns-2 c = rw (← (rw (c .before .before .before .before .before .next .given .1) at (c .before .before .before .before .before .before .before .expect .ensures))) (c .before .before .ending .ensures)
+returns-2 c =
+    let b5 = c .before .before .before .before .before in
+    let letter = rw (b5 .next .given .1) at (b5 .before .before .expect .ensures) in
+    (rw (← letter) (c .before .before .ending .ensures .0), rw (← letter) (c .before .before .ending .ensures .1))
 
 pub line-spec : {M : Type 1} → statement M
 line-spec =

@@ -22,7 +22,7 @@ enum-told c = search needs
 
 returns : tie.Need-returns
 unfolding lineE
-returns c = rw (← (rw (c .enum-told .given .1) at (c .before .before .before .line .ensures)))
+returns c = rw (← (rw (c .enum-told .given .1) at (c .before .before .before .line .ensures .0)))
 
 slice-aggregate-float-at : tie.Need-slice-aggregate-float-at
 slice-aggregate-float-at c = search needs
@@ -60,7 +60,9 @@ returns-2 c =
     let b8 = b4 .before .before .before .before in
     let b11 = b8 .before .before .before in
     let b14 = b11 .before .before .before in
-    rw (c .float-at5 .ensures, c .before .before .float-at4 .ensures, b4 .float-at3 .ensures, b4 .before .before .float-at2 .ensures, b8 .float-at .ensures) (env-read (b14 .line .last .1 .1 .1 .1 .0) _ (b14 .line .kept .1 .1 .1 .1 .0) (rw (b11 .next .given .1) at (b14 .line .ensures)))
+    let next = rw (b11 .next .given .1) at (b14 .line .ensures .0) in
+    rw (c .float-at5 .ensures, c .before .before .float-at4 .ensures, b4 .float-at3 .ensures, b4 .before .before .float-at2 .ensures, b8 .float-at .ensures)
+    (env-read (b14 .line .last .1 .1 .1 .1 .0) _ (b14 .line .kept .1 .1 .1 .1 .0) next)
 
 pub line-e-spec : {M : Type 1} → statement M
 line-e-spec =

@@ -22,7 +22,7 @@ enum-told c = search needs
 
 returns : tie.Need-returns
 unfolding lineS
-returns c = rw (← (rw (c .enum-told .given .1) at (c .before .before .before .line .ensures)))
+returns c = rw (← (rw (c .enum-told .given .1) at (c .before .before .before .line .ensures .0)))
 
 array-read-t14 : tie.Need-array-read-t14
 array-read-t14 c = search needs
@@ -56,7 +56,8 @@ returns-2 c =
     let b4 = c .before .before .before .before in
     let b7 = b4 .before .before .before in
     let b10 = b7 .before .before .before in
-    rw (c .float-at3 .ensures, c .before .before .float-at2 .ensures, b4 .float-at .ensures) (numbers-read (b10 .line .last .1 .1 .1 .1 .0) _ (b10 .line .kept .1 .1 .1 .1 .0) (rw (b7 .next .given .1) at (b10 .line .ensures)))
+    let next = rw (b7 .next .given .1) at (b10 .line .ensures .0) in
+    rw (c .float-at3 .ensures, c .before .before .float-at2 .ensures, b4 .float-at .ensures) (numbers-read (b10 .line .last .1 .1 .1 .1 .0) _ (b10 .line .kept .1 .1 .1 .1 .0) next)
 
 pub line-s-spec : {M : Type 1} → statement M
 line-s-spec =

@@ -20,11 +20,15 @@ returns-3 c = if-false _ (ne-eqb _ _ (c .before .before .if1 .left)) (if-false _
 
 returns-4 : tie.Need-returns-4
 unfolding knobCount
-returns-4 c = if-false _ (ne-eqb _ _ (c .before .before .before .if1 .left)) (if-false _ (ne-eqb _ _ (c .before .before .if2 .left)) (if-false _ (ne-eqb _ _ (c .before .if3 .left)) (if-true _ (eq-eqb _ _ (c .if4 .taken)) refl)))
+returns-4 c =
+    let b3 = c .before .before .before in
+    if-false _ (ne-eqb _ _ (b3 .if1 .left)) (if-false _ (ne-eqb _ _ (c .before .before .if2 .left)) (if-false _ (ne-eqb _ _ (c .before .if3 .left)) (if-true _ (eq-eqb _ _ (c .if4 .taken)) refl)))
 
 returns-5 : tie.Need-returns-5
 unfolding knobCount
-returns-5 c = if-false _ (ne-eqb _ _ (c .before .before .before .if1 .left)) (if-false _ (ne-eqb _ _ (c .before .before .if2 .left)) (if-false _ (ne-eqb _ _ (c .before .if3 .left)) (if-false _ (ne-eqb _ _ (c .if4 .left)) refl)))
+returns-5 c =
+    let b3 = c .before .before .before in
+    if-false _ (ne-eqb _ _ (b3 .if1 .left)) (if-false _ (ne-eqb _ _ (c .before .before .if2 .left)) (if-false _ (ne-eqb _ _ (c .before .if3 .left)) (if-false _ (ne-eqb _ _ (c .if4 .left)) refl)))
 
 pub knob-count-spec : {M : Type 1} → statement M
 knob-count-spec = tie.close (tie.spec returns returns-2 returns-3 returns-4 returns-5)

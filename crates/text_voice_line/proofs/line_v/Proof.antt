@@ -30,7 +30,9 @@ enum-told-2 c = search needs
 
 returns-2 : tie.Need-returns-2
 unfolding lineV
-returns-2 c = rw (← (rw (c .before .before .before .before .first .given .1) at (c .before .before .before .before .before .before .expect .ensures)), ← (rw (c .enum-told2 .given .1) at (c .before .before .field .ensures)))
+returns-2 c =
+    let b4 = c .before .before .before .before in
+    rw (← (rw (b4 .first .given .1) at (b4 .before .before .expect .ensures)), ← (rw (c .enum-told2 .given .1) at (c .before .before .field .ensures)))
 
 cast-at : tie.Need-cast-at
 cast-at c =
@@ -53,7 +55,8 @@ unfolding lineV soundOf
 returns-3 c =
     let b4 = c .before .before .before .before in
     let b8 = b4 .before .before .before .before in
-    rw (← (rw (b8 .first .given .1) at (b8 .before .before .expect .ensures)), ← (rw (b4 .place .given .1) at (b4 .before .before .field .ensures)), ← (c .before .before .at .ensures), c .enum-told3 .given .1)
+    let first = rw (b8 .first .given .1) at (b8 .before .before .expect .ensures) in
+    rw (← first, ← (rw (b4 .place .given .1) at (b4 .before .before .field .ensures)), ← (c .before .before .at .ensures), c .enum-told3 .given .1)
 
 cast-sound-of : tie.Need-cast-sound-of
 cast-sound-of c =
@@ -72,7 +75,8 @@ returns-4 c =
     let b4 = c .before .before .before .before in
     let b8 = b4 .before .before .before .before in
     let b12 = b8 .before .before .before .before in
-    rw (← (rw (b8 .before .before .first .given .1) at (b12 .expect .ensures)), ← (rw (b4 .before .before .place .given .1) at (b8 .field .ensures)), ← (b4 .at .ensures), c .before .before .wave .given .1) (c .sound-of .ensures)
+    let first = rw (b8 .before .before .first .given .1) at (b12 .expect .ensures) in
+    rw (← first, ← (rw (b4 .before .before .place .given .1) at (b8 .field .ensures)), ← (b4 .at .ensures), c .before .before .wave .given .1) (c .sound-of .ensures)
 
 pub line-v-spec : {M : Type 1} → statement M
 line-v-spec =

@@ -19,7 +19,9 @@ float-at-requires-5 : tie.Need-float-at-requires-5
 float-at-requires-5 c κs = search needs
 
 returns : tie.Need-returns
-returns c = rw (c .float-at5 .ensures, c .before .float-at4 .ensures, c .before .before .float-at3 .ensures, c .before .before .before .float-at2 .ensures, c .before .before .before .before .float-at .ensures)
+returns c =
+    let b3 = c .before .before .before in
+    rw (c .float-at5 .ensures, c .before .float-at4 .ensures, c .before .before .float-at3 .ensures, b3 .float-at2 .ensures, b3 .before .float-at .ensures)
 
 pub piano-of-spec : {M : Type 1} → statement M
 piano-of-spec =

@@ -50,7 +50,8 @@ returns-2 c =
     let b3 = c .before .before .before in
     let b6 = b3 .before .before .before in
     let b10 = b6 .before .before .before .before in
-    sound-none (b10 .before .before .args .place) (b6 .knob-count .ensures) (b10 .before .before .args .wave) _ (rw (b6 .before .before .duty .given .1) at (b10 .field .ensures)) (rw (c .enum-told2 .given .1) at (b3 .ending .ensures))
+    let duty = rw (b6 .before .before .duty .given .1) at (b10 .field .ensures) in
+    sound-none (b10 .before .before .args .place) (b6 .knob-count .ensures) (b10 .before .before .args .wave) _ duty (rw (c .enum-told2 .given .1) at (b3 .ending .ensures .0))
 
 array-share-prefix-bits : tie.Need-array-share-prefix-bits
 array-share-prefix-bits c =
@@ -85,7 +86,10 @@ returns-3 c =
     let b7 = b4 .before .before .before in
     let b10 = b7 .before .before .before in
     let b14 = b10 .before .before .before .before in
-    rw (c .f32-from-bits .ensures, c .before .voice-of .ensures) (sound-read (b14 .before .before .args .place) (b10 .knob-count .ensures) (b14 .before .before .args .wave) _ (rw (b10 .before .before .duty .given .1) at (b14 .field .ensures)) (b7 .ending .last .1 .1 .1 .0) (rw (b4 .next .given .1) at (b7 .ending .ensures)))
+    let duty = rw (b10 .before .before .duty .given .1) at (b14 .field .ensures) in
+    let next = rw (b4 .next .given .1) at (b7 .ending .ensures .0) in
+    rw (c .f32-from-bits .ensures, c .before .voice-of .ensures)
+    (sound-read (b14 .before .before .args .place) (b10 .knob-count .ensures) (b14 .before .before .args .wave) _ duty (b7 .ending .last .1 .1 .1 .0) next)
 
 pub sound-of-spec : {M : Type 1} → statement M
 sound-of-spec =

@@ -28,7 +28,9 @@ voice-with-requires-3 c κs = search needs
 
 returns-3 : tie.Need-returns-3
 unfolding voiceOf
-returns-3 c = if-false _ (ne-eqb _ _ (c .before .before .before .if1 .left)) (if-false _ (ne-eqb _ _ (c .before .before .if2 .left)) (if-true _ (eq-eqb _ _ (c .before .if3 .taken)) (c .voice-with3 .ensures)))
+returns-3 c =
+    let b3 = c .before .before .before in
+    if-false _ (ne-eqb _ _ (b3 .if1 .left)) (if-false _ (ne-eqb _ _ (c .before .before .if2 .left)) (if-true _ (eq-eqb _ _ (c .before .if3 .taken)) (c .voice-with3 .ensures)))
 
 voice-with-requires-4 : tie.Need-voice-with-requires-4
 voice-with-requires-4 c κs = search needs
@@ -37,7 +39,8 @@ returns-4 : tie.Need-returns-4
 unfolding voiceOf
 returns-4 c =
     let b3 = c .before .before .before in
-    if-false _ (ne-eqb _ _ (b3 .before .if1 .left)) (if-false _ (ne-eqb _ _ (b3 .if2 .left)) (if-false _ (ne-eqb _ _ (c .before .before .if3 .left)) (if-true _ (eq-eqb _ _ (c .before .if4 .taken)) (c .voice-with4 .ensures))))
+    if-false _ (ne-eqb _ _ (b3 .before .if1 .left))
+    (if-false _ (ne-eqb _ _ (b3 .if2 .left)) (if-false _ (ne-eqb _ _ (c .before .before .if3 .left)) (if-true _ (eq-eqb _ _ (c .before .if4 .taken)) (c .voice-with4 .ensures))))
 
 voice-with-requires-5 : tie.Need-voice-with-requires-5
 voice-with-requires-5 c κs = search needs
@@ -46,7 +49,8 @@ returns-5 : tie.Need-returns-5
 unfolding voiceOf
 returns-5 c =
     let b3 = c .before .before .before in
-    if-false _ (ne-eqb _ _ (b3 .before .if1 .left)) (if-false _ (ne-eqb _ _ (b3 .if2 .left)) (if-false _ (ne-eqb _ _ (c .before .before .if3 .left)) (if-false _ (ne-eqb _ _ (c .before .if4 .left)) (c .voice-with5 .ensures))))
+    if-false _ (ne-eqb _ _ (b3 .before .if1 .left))
+    (if-false _ (ne-eqb _ _ (b3 .if2 .left)) (if-false _ (ne-eqb _ _ (c .before .before .if3 .left)) (if-false _ (ne-eqb _ _ (c .before .if4 .left)) (c .voice-with5 .ensures))))
 
 pub voice-of-spec : {M : Type 1} → statement M
 voice-of-spec =

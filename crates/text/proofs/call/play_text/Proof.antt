@@ -21,19 +21,27 @@ written-bytes-requires : tie.Need-written-bytes-requires
 written-bytes-requires c κs = search needs
 
 copy-bytes-requires : tie.Need-copy-bytes-requires
-copy-bytes-requires c κs = (written-most _ _ (c .before .written-bytes .ensures) _ (printed-fits (c .before .before .before .before .print-listing .ensures)), written-within _ _ (c .before .written-bytes .ensures))
+copy-bytes-requires c κs =
+    let b4 = c .before .before .before .before in
+    (written-most _ _ (c .before .written-bytes .ensures) _ (printed-fits (b4 .print-listing .ensures)), written-within _ _ (c .before .written-bytes .ensures))
 
 same-length : tie.Need-same-length
 same-length c = search needs
 
 returns : tie.Need-returns
-returns c = replied-short _ _ (c .before .before .before .before .before .before .before .before .print-listing .ensures) (c .before .before .before .before .before .written-bytes .ensures) (c .before .before .before .copy-bytes .ensures) (c .if1 .taken)
+returns c =
+    let b3 = c .before .before .before in
+    let b8 = b3 .before .before .before .before .before in
+    replied-short _ _ (b8 .print-listing .ensures) (b3 .before .before .written-bytes .ensures) (b3 .copy-bytes .ensures) (c .if1 .taken)
 
 same-length-2 : tie.Need-same-length-2
 same-length-2 c = search needs
 
 returns-2 : tie.Need-returns-2
-returns-2 c = replied-whole _ _ (c .before .before .before .before .before .before .before .before .print-listing .ensures) (c .before .before .before .before .before .written-bytes .ensures) (c .before .before .before .copy-bytes .ensures) (c .if1 .left)
+returns-2 c =
+    let b3 = c .before .before .before in
+    let b8 = b3 .before .before .before .before .before in
+    replied-whole _ _ (b8 .print-listing .ensures) (b3 .before .before .written-bytes .ensures) (b3 .copy-bytes .ensures) (c .if1 .left)
 
 pub play-text-spec : {M : Type 1} → statement M
 play-text-spec =

@@ -63,7 +63,9 @@ put-decimal-returns : (t : ℕ) → put-decimal-lts.Need-returns (
   put-decimal-below t,
   put-decimal.Post,
 ) (put-decimal-at t) put-decimal.Post
-put-decimal-returns t c = printed-as (decimal-last (c .before .before .before .before .before .if1 .taken)) (rw (c .before .before .before .digit-for .ensures) at (c .before .before .put-byte .ensures))
+put-decimal-returns t c =
+    let b3 = c .before .before .before in
+    printed-as (decimal-last (b3 .before .before .if1 .taken)) (rw (b3 .digit-for .ensures) at (c .before .before .put-byte .ensures))
 
 put-decimal-put-decimal-requires : (t : ℕ) → put-decimal-lts.Need-put-decimal-requires (
   digit-for-reads.Asked,
@@ -120,7 +122,9 @@ put-decimal-returns-2 t c =
     let b3 = c .before .before .before in
     let b7 = b3 .before .before .before .before in
     let b11 = b7 .before .before .before .before in
-    printed-as (decimal-longer (b7 .before .before .if1 .left)) (printed-both _ _ (room-as (decimal-longer (b7 .before .before .if1 .left)) (b11 .pre .1)) (b7 .put-decimal .ensures) (rw (b3 .digit-for2 .ensures) at (c .before .before .put-byte2 .ensures)))
+    let longer = decimal-longer (b7 .before .before .if1 .left) in
+    let last = rw (b3 .digit-for2 .ensures) at (c .before .before .put-byte2 .ensures) in
+    printed-as longer (printed-both _ _ (room-as longer (b11 .pre .1)) (b7 .put-decimal .ensures) last)
 
 pub +put-decimal-spec : {M : Type 1} → statement M
 +put-decimal-spec = close μ-put-decimal λ t. put-decimal-lts.spec (

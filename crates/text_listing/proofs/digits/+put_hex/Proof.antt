@@ -51,7 +51,9 @@ put-hex-put-hex-requires : (t : ℕ) → put-hex-lts.Need-put-hex-requires (
   put-byte-reads.Asked,
   put-byte-reads.Learnt,
 ) (put-hex-at t) put-hex.Post
-put-hex-put-hex-requires t c κs = (omega (arith, c .before .before .before .pre .0), room-first _ _ (room-as (hex-longer (c .before .before .before .args .v) (c .before .if1 .left)) (c .before .before .before .pre .1)))
+put-hex-put-hex-requires t c κs =
+    let b3 = c .before .before .before in
+    (omega (arith, b3 .pre .0), room-first _ _ (room-as (hex-longer (b3 .args .v) (c .before .if1 .left)) (b3 .pre .1)))
 
 put-hex-digit-for-requires : (t : ℕ) → put-hex-lts.Need-digit-for-requires (
   put-hex-below t,
@@ -98,7 +100,9 @@ put-hex-returns-2 t c =
     let b3 = c .before .before .before in
     let b7 = b3 .before .before .before .before in
     let b11 = b7 .before .before .before .before in
-    printed-as (hex-longer (b11 .args .v) (b7 .before .before .if1 .left)) (printed-both _ _ (room-as (hex-longer (b11 .args .v) (b7 .before .before .if1 .left)) (b11 .pre .1)) (b7 .put-hex .ensures) (rw (b3 .digit-for .ensures) at (c .before .before .put-byte .ensures)))
+    let longer = hex-longer (b11 .args .v) (b7 .before .before .if1 .left) in
+    let last = rw (b3 .digit-for .ensures) at (c .before .before .put-byte .ensures) in
+    printed-as longer (printed-both _ _ (room-as longer (b11 .pre .1)) (b7 .put-hex .ensures) last)
 
 pub +put-hex-spec : {M : Type 1} → statement M
 +put-hex-spec = close μ-put-hex λ t. put-hex-lts.spec (

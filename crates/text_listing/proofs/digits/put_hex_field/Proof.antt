@@ -15,7 +15,10 @@ same-length : tie.Need-same-length
 same-length c = search needs
 
 returns : tie.Need-returns
-returns c = printed-both (9 ∷ []) _ (c .before .before .before .before .before .before .before .before .before .pre) (c .before .before .before .before .before .before .put-byte .ensures) (c .before .before .put-hex .ensures)
+returns c =
+    let b6 = c .before .before .before .before .before .before in
+    let b9 = b6 .before .before .before in
+    printed-both (9 ∷ []) _ (b9 .pre) (b6 .put-byte .ensures) (c .before .before .put-hex .ensures)
 
 pub put-hex-field-spec : {M : Type 1} → statement M
 put-hex-field-spec = tie.close (tie.spec put-byte-requires put-hex-requires same-length returns)

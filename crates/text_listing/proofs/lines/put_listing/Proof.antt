@@ -7,7 +7,9 @@ use Rattle.text_listing.proofs.lines.put_listing.Statement.{statement}
 use Rattle.text_listing.proofs.lines.put_listing.Tie as tie
 
 put-opening-requires : tie.Need-put-opening-requires
-put-opening-requires c κs = room-first _ _ (listing-room (c .before .before .before .args .state) (c .before .before .before .args .draw) (c .before .before .before .args .frames .now) (omega arith) (c .before .before .before .pre))
+put-opening-requires c κs =
+    let b3 = c .before .before .before in
+    room-first _ _ (listing-room (b3 .args .state) (b3 .args .draw) (b3 .args .frames .now) (omega arith) (b3 .pre))
 
 put-frames-requires : tie.Need-put-frames-requires
 put-frames-requires c κs =

@@ -33,7 +33,7 @@ returns : tie.Need-returns
 returns c =
     let b4 = c .before .before .before .before in
     let b8 = b4 .before .before .before .before in
-    note-whole (b4 .line .last .1 .1 .1 .1 .0) _ {rest = drop (c .before .next .given .0 .0) (b8 .args .s .now)} (rw (c .before .next .given .1) at (b4 .line .ensures))
+    note-whole (b4 .line .last .1 .1 .1 .1 .0) _ {rest = drop (c .before .next .given .0 .0) (b8 .args .s .now)} (rw (c .before .next .given .1) at (b4 .line .ensures .0))
 
 enum-told : tie.Need-enum-told
 enum-told c = search needs
@@ -65,7 +65,8 @@ returns-2 c =
     let b7 = b4 .before .before .before in
     let b10 = b7 .before .before .before in
     let b14 = b10 .before .before .before .before in
-    note-short (b4 .line2 .last .1 .1 .1 .1 .0) _ {rest = drop (c .before .last .given .0 .0) (b14 .args .s .now)} (rw (b7 .enum-told .given .1) at (b10 .line .ensures)) (rw (c .before .last .given .1) at (b4 .line2 .ensures))
+    let none = rw (b7 .enum-told .given .1) at (b10 .line .ensures .0) in
+    note-short (b4 .line2 .last .1 .1 .1 .1 .0) _ {rest = drop (c .before .last .given .0 .0) (b14 .args .s .now)} none (rw (c .before .last .given .1) at (b4 .line2 .ensures .0))
 
 enum-told-2 : tie.Need-enum-told-2
 enum-told-2 c = search needs
@@ -75,7 +76,7 @@ returns-3 c =
     let b3 = c .before .before .before in
     let b6 = b3 .before .before .before in
     let b9 = b6 .before .before .before in
-    note-none _ (rw (b6 .enum-told .given .1) at (b9 .line .ensures)) (rw (c .enum-told2 .given .1) at (b3 .line2 .ensures))
+    note-none _ (rw (b6 .enum-told .given .1) at (b9 .line .ensures .0)) (rw (c .enum-told2 .given .1) at (b3 .line2 .ensures .0))
 
 pub line-n-spec : {M : Type 1} → statement M
 line-n-spec =

@@ -1,79 +1,54 @@
--- `text_read::notes::notes` meets its contract. The loop's invariant is `Gathered`; a line is a byte at least, so that the rest gets shorter. Assumes nothing.
+-- `text_read::notes::notes` meets its contract. Assumes nothing.
+use lib.ListN.{drop}
+use Rattle.text_read.proofs.Gather.{noted-broken, noted-many, noted-fitting, noted-stored}
 use borrow.Author.Needs.{needs}
-use Prim.Native.Nat.{_-_}
-use native.Mathlib.Omega.{arith}
-use lib.ListN.{length}
-use Rattle.text_read.proofs.Gather.{Gathered, gathered-none, gathered-all, gathered-bad, gathered-more}
-use Rattle.text_read.proofs.Shorter.{note-later}
 use Rattle.text_read.proofs.notes.notes.Statement.{statement}
 use Rattle.text_read.proofs.notes.notes.Tie as tie
 
-abbrev Inv-loop : tie.InvT-loop
-Inv-loop s start words₀ at₀ n₀ words at n = Gathered s start words₀ words at n
+count-notes-requires : tie.Need-count-notes-requires
+count-notes-requires c κs = search needs
 
-abbrev μ-loop : tie.MeasureT-loop
-μ-loop s start words₀ at₀ n₀ words at n = length s - at
+enum-known-n : tie.Need-enum-known-n
+enum-known-n c = search needs
 
-loop-holds : tie.Need-loop-holds Inv-loop μ-loop
-loop-holds c = gathered-none
-
-line-n-requires : tie.Need-line-n-requires Inv-loop μ-loop
-line-n-requires c κs = search needs
-
-enum-known-step : tie.Need-enum-known-step Inv-loop μ-loop
-enum-known-step c = search needs
-
-enum-told : tie.Need-enum-told Inv-loop μ-loop
+enum-told : tie.Need-enum-told
 enum-told c = search needs
 
-same-length : tie.Need-same-length Inv-loop μ-loop
-same-length c = c .before .before .before .before .loop .inv .same
-
-returns : tie.Need-returns Inv-loop μ-loop
-returns c = gathered-bad (c .before .before .before .before .loop .inv) (c .before .before .before .loop-test .taken) (c .enum-told .given .1) (c .before .before .line-n .ensures)
-
-store-note-requires : tie.Need-store-note-requires Inv-loop μ-loop
-store-note-requires c κs = search needs
-
-add-n : tie.Need-add-n Inv-loop μ-loop
-add-n c = omega (arith, c .before .before .before .before .before .before .before .before .before .loop .inv .few)
-
-loop-less : tie.Need-loop-less Inv-loop μ-loop
-loop-less c =
+returns : tie.Need-returns
+returns c =
     let b5 = c .before .before .before .before .before in
-    let b9 = b5 .before .before .before .before in
-    let b12 = b9 .before .before .before in
-    note-later (b12 .args .s .now) (b9 .loop .at) (b5 .step .given .1) (b5 .before .before .line-n .ensures)
+    noted-broken (drop (b5 .args .start) (b5 .args .s .now)) _ (c .before .before .count-notes .ensures) (c .enum-told .given .1)
 
-loop-again : tie.Need-loop-again Inv-loop μ-loop
-loop-again c =
+returns-2 : tie.Need-returns-2
+returns-2 c =
+    let b4 = c .before .before .before .before in
+    let a = b4 .before .before .before .args in
+    noted-many (drop (a .start) (a .s .now)) _ (b4 .count-notes .ensures) (c .before .before .n .given .1) (c .if1 .taken)
+
+store-notes-requires : tie.Need-store-notes-requires
+store-notes-requires c κs =
     let b5 = c .before .before .before .before .before in
-    let b8 = b5 .before .before .before in
-    let b12 = b8 .before .before .before .before in
-    let l = note-later (b12 .args .s .now) (b8 .before .loop .at) (b5 .step .given .1) (b5 .before .before .line-n .ensures) in
-    gathered-more (b8 .before .loop .inv) (b8 .loop-test .taken) (b5 .step .given .1) (b5 .before .before .line-n .ensures) (omega arith) (c .before .before .store-note .kept .0) (c .before .before .store-note .ensures)
+    let a = b5 .before .before .before .args in
+    noted-fitting (drop (a .start) (a .s .now)) _ (b5 .count-notes .ensures) (c .before .before .before .n .given .1) (c .before .if1 .left)
 
-same-length-2 : tie.Need-same-length-2 Inv-loop μ-loop
-same-length-2 c = c .before .loop .inv .same
+same-length : tie.Need-same-length
+same-length c = search needs
 
-returns-2 : tie.Need-returns-2 Inv-loop μ-loop
-returns-2 c = gathered-all (c .before .loop .inv) (c .loop-test .left)
+returns-3 : tie.Need-returns-3
+returns-3 c =
+    let b6 = c .before .before .before .before .before .before in
+    let a = b6 .before .before .before .before .before .args in
+    noted-stored (drop (a .start) (a .s .now)) _ (b6 .before .before .count-notes .ensures) (b6 .n .given .1) (c .before .before .store-notes .ensures)
 
 pub notes-spec : {M : Type 1} → statement M
 notes-spec =
     tie.close
     (tie.spec
-    Inv-loop
-    μ-loop
-    loop-holds
-    line-n-requires
-    enum-known-step
+    count-notes-requires
+    enum-known-n
     enum-told
-    same-length
     returns
-    store-note-requires
-    add-n
-    loop-less
-    loop-again
-    same-length-2
-    returns-2)
+    returns-2
+    store-notes-requires
+    same-length
+    returns-3)

@@ -1,4 +1,5 @@
 -- `text_read::notes::store_note` meets its contract. Assumes nothing.
+use Prim.Native.Nat.{_*_}
 use native.Mathlib.Omega.{arith}
 use lib.ListN.{length-set}
 use Rattle.text_read.proofs.Gather.{stored}
@@ -55,10 +56,7 @@ same-length : tie.Need-same-length
 same-length c = search needs
 
 returns : tie.Need-returns
-returns c = λ h. stored _ _ _ _ _ _ _ h
-
-returns-2 : tie.Need-returns-2
-returns-2 c = λ h. absurd (omega arith)
+returns c = let a = c .args in stored (a .words .now) (a .n * 5) (a .step) (a .len) 0 (a .pitch) (a .gain) (c .pre)
 
 pub store-note-spec : {M : Type 1} → statement M
 store-note-spec =
@@ -80,5 +78,4 @@ store-note-spec =
     mul-words-5
     slice-write-words-5
     same-length
-    returns
-    returns-2)
+    returns)
