@@ -64,7 +64,10 @@ module _ (g : ℕ → ℕ → ℕ) (one : (k : ℕ) → g k 1 ≡ k) (close : Cl
   held : (s : Bool) (m : ℕ) (e : ℤ) → T (fits f (fin s m e)) → T (fits f (whole g (fin s m e)))
   unfolding whole
   held s m (pos k) t = t
-  held s m (negsuc k) t = exactly-fits f s (g m (2 ^ suc k)) 0 (lt-of-le-of-lt (raised-less (g m (2 ^ suc k)) m (2 ^ suc k) (pow-pos (suc k)) (close m (2 ^ suc k) (pow-pos (suc k)))) (small m t)) (omega arith)
+  held s m (negsuc k) t =
+      let c = 2 ^ suc k in
+      let C = pow-pos (suc k) in
+      exactly-fits f s (g m c) 0 (lt-of-le-of-lt (raised-less (g m c) m c C (close m c C)) (small m t)) (omega arith)
     where
       small : (m : ℕ) → T (fits f (fin s m (negsuc k))) → m < 2 ^ prec f
       small zero t = pow-pos (prec f)

@@ -69,9 +69,12 @@ module _ (f : Format) (s : Bool) {a b : ℕ} {x z : Float} (v : IsValue f s a x)
   unfolding next
   next-ne e = elim (eq-or-lt-of-le q-lt) [
     | inl t ↦ odd-top q (2 ^ prec f) t q-even (pow-even (prec f) P)
-    | inr t ↦ odd-next q q-even (sym (ap (λ (n : ℕ). n % 2) (keeps-q (prec f) (suc q) k P t (λ i. le-trans (q-least i) (omega arith)))) ∙ ap (λ (n : ℕ). keeps (prec f) n % 2) e ∙ sym (last-bit f z s b (w .is)) ∙ even′)
+    | inr t ↦ odd-next q q-even (sym (ap (λ (n : ℕ). n % 2) (kept t)) ∙ ap (λ (n : ℕ). keeps (prec f) n % 2) e ∙ sym (last-bit f z s b (w .is)) ∙ even′)
   ]
     where
+      kept : suc q < 2 ^ prec f → keeps (prec f) (suc q * 2 ^ k) ≡ suc q
+      kept t = keeps-q (prec f) (suc q) k P t (λ i. le-trans (q-least i) (omega arith))
+
       odd-top : (q p : ℕ) → suc q ≡ p → q % 2 ≡ 0 → p % 2 ≡ 0 → ⊥
       odd-top q p t e h = omega arith
 

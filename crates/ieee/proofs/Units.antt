@@ -165,6 +165,7 @@ value-below f s b x v = go x (v .held) (v .is)
 
     go : (x : Float) → T (fits f x) → HasValue x s b (2 ^ low f) → b < overflow f
     go (fin t zero e) h v =
+        let U = 2 ^ suc (emax f) in
         subst (λ (n : ℕ). b < n) total
-        (crossed (zero * up e) (down e) (2 ^ suc (emax f)) (down-pos e) (v .1) (subst (λ (n : ℕ). n < 2 ^ suc (emax f) * down e) (sym (zero-mul (up e))) (mul-pos (pow-pos (suc (emax f))) (down-pos e))))
+        (crossed (zero * up e) (down e) U (down-pos e) (v .1) (subst (λ (n : ℕ). n < U * down e) (sym (zero-mul (up e))) (mul-pos (pow-pos (suc (emax f))) (down-pos e))))
     go (fin t (suc m) e) h v = subst (λ (n : ℕ). b < n) total (crossed (suc m * up e) (down e) (2 ^ suc (emax f)) (down-pos e) (v .1) (fits-parts f t m e h .2))

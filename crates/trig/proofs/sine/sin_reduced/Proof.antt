@@ -27,7 +27,8 @@ returns-2 : tie.Need-returns-2
 unfolding ofBits neg remEuclid4 ofInt round size units odd
 returns-2 c =
     let d = c .before .before .before .before in
-    c .by-quadrant2 .ensures ∙ quarter (d .args .r) (negsuc 0) 3 _ (near-signed (near-mirrored 1 (d .args .r ⧄ FRAC·PI·2) (c .before .before .if2 .left) (c .before .if3 .taken)) 63 (lit< tt)) refl refl
+    let n = near-mirrored 1 (d .args .r ⧄ FRAC·PI·2) (c .before .before .if2 .left) (c .before .if3 .taken) in
+    c .by-quadrant2 .ensures ∙ quarter (d .args .r) (negsuc 0) 3 _ (near-signed n 63 (lit< tt)) refl refl
 
 by-quadrant-requires-3 : tie.Need-by-quadrant-requires-3
 by-quadrant-requires-3 c κs = search needs
@@ -36,7 +37,8 @@ returns-3 : tie.Need-returns-3
 unfolding ofBits neg remEuclid4 ofInt round size units odd
 returns-3 c =
     let d = c .before .before .before .before .before in
-    c .by-quadrant3 .ensures ∙ quarter (d .args .r) (negsuc 1) 2 _ (near-signed (near-mirrored 2 (d .args .r ⧄ FRAC·PI·2) (c .before .before .if3 .left) (c .before .if4 .taken)) 63 (lit< tt)) refl refl
+    let n = near-mirrored 2 (d .args .r ⧄ FRAC·PI·2) (c .before .before .if3 .left) (c .before .if4 .taken) in
+    c .by-quadrant3 .ensures ∙ quarter (d .args .r) (negsuc 1) 2 _ (near-signed n 63 (lit< tt)) refl refl
 
 sin-any-requires : tie.Need-sin-any-requires
 sin-any-requires c κs = search needs
