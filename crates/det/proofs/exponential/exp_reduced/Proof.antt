@@ -3,18 +3,18 @@ use borrow.Author.Needs.{needs}
 use mathlib.Core.Path.{_≡_, sym, ap, _∙_, subst}
 use lib.Dec.{T}
 use lib.Ieee.{Float, neg}
-use Rattle.ieee.specs.Binary64.{_⊗_}
+use Rattle.ieee.specs.Binary64.{_⊠_}
 use Rattle.ieee.specs.Whole.{roundOf}
-use Rattle.float.specs.Rounded.{noFraction}
+use Rattle.det.specs.Rounded.{noFraction}
 use Rattle.float.proofs.Signs.{near-whole, near-whole-mirrored}
-use Rattle.float.proofs.Casts.{round-whole}
+use Rattle.det.proofs.Casts.{round-whole}
 use Rattle.det.specs.Exp.{INV·LN2, expFrom, expReduced}
 use Rattle.det.proofs.exponential.exp_reduced.Statement.{statement}
 use Rattle.det.proofs.exponential.exp_reduced.Tie as tie
 
 -- x / ln 2
 abbrev quotient : Float → Float
-quotient x = x ⊗ INV·LN2
+quotient x = x ⊠ INV·LN2
 
 -- what is given is that number rounded, above zero and below it
 above : (c : tie.After-known-told) → c .before .above .given .0 .0 ≡ roundOf (quotient (c .before .before .before .before .args .x))

@@ -2,7 +2,7 @@
 use borrow.Author.Needs.{needs}
 use mathlib.Core.Path.{sym, _∙_}
 use Rattle.laws.proofs.If.{if-true, if-false}
-use Rattle.det.specs.Tanh.{tanhOf}
+use Rattle.det.specs.Tanh.{tanh64}
 use Rattle.ieee.proofs.Nans.{ne-self}
 use Rattle.det.proofs.hyperbolic.tanh.Statement.{statement}
 use Rattle.det.proofs.hyperbolic.tanh.Tie as tie
@@ -11,7 +11,7 @@ not-a-number-requires : tie.Need-not-a-number-requires
 not-a-number-requires c κs = search needs
 
 returns : tie.Need-returns
-unfolding tanhOf
+unfolding tanh64
 returns c = if-true _ (sym (ne-self (c .before .before .args .x)) ∙ c .before .if1 .taken) (c .not-a-number .ensures)
 
 magnitude-requires : tie.Need-magnitude-requires
@@ -24,7 +24,7 @@ tanh-signed-requires : tie.Need-tanh-signed-requires
 tanh-signed-requires c κs = search needs
 
 returns-2 : tie.Need-returns-2
-unfolding tanhOf
+unfolding tanh64
 returns-2 c =
     let d = c .before .before .before in
     if-false _ (sym (ne-self (d .before .args .x)) ∙ d .if1 .left)

@@ -1,6 +1,6 @@
 -- `trig::sine::cos` meets its contract. Assumes nothing.
 use borrow.Author.Needs.{needs}
-use Rattle.trig.specs.Trig.{cosOf}
+use Rattle.trig.specs.Trig.{cos64}
 use Rattle.trig.proofs.sine.cos.Statement.{statement}
 use Rattle.trig.proofs.sine.cos.Tie as tie
 
@@ -8,7 +8,7 @@ sin-requires : tie.Need-sin-requires
 sin-requires c κs = search needs
 
 returns : tie.Need-returns
-unfolding cosOf
+unfolding cos64
 returns c = rw (c .sin .ensures)
 
 pub cos-spec : {M : Type 1} → statement M

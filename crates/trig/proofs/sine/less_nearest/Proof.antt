@@ -14,7 +14,10 @@ less-turns-requires c κs = search needs
 
 returns : tie.Need-returns
 unfolding ofBits odd size
-returns c = let d = c .before .before .before in c .less-turns .ensures ∙ ap (lessTurns (d .args .x)) (near-is (near 0 (d .args .t) (c .before .if2 .taken) (c .before .before .if1 .taken)) binary64 (passes _ (d .good .1 .0 .1)) (lit< tt))
+returns c =
+    let d = c .before .before .before in
+    c .less-turns .ensures
+    ∙ ap (lessTurns (d .args .x)) (near-is (near 0 (d .args .t) (c .before .if2 .taken) (c .before .before .if1 .taken)) binary64 (passes _ (d .good .1 .0 .1)) (lit< tt))
 
 less-turns-requires-2 : tie.Need-less-turns-requires-2
 less-turns-requires-2 c κs = search needs

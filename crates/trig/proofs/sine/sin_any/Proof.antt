@@ -2,18 +2,17 @@
 use borrow.Author.Needs.{needs}
 use Rattle.trig.specs.Trig.{sinReduced}
 use Rattle.float.proofs.Signed.{back}
-use Rattle.float.proofs.Casts.{round-whole}
 use Rattle.trig.proofs.sine.sin_any.Statement.{statement}
 use Rattle.trig.proofs.sine.sin_any.Tie as tie
 
 round-f64-requires : tie.Need-round-f64-requires
 round-f64-requires c κs = search needs
 
-rounded-to-i64-requires : tie.Need-rounded-to-i64-requires
-rounded-to-i64-requires c κs = (rw (c .round-f64 .ensures) (round-whole _))
+f64-to-i64-requires : tie.Need-f64-to-i64-requires
+f64-to-i64-requires c κs = search needs
 
-rounded-again-requires : tie.Need-rounded-again-requires
-rounded-again-requires c κs = (rw (c .before .round-f64 .ensures) (round-whole _))
+nearest-i64-to-f64-requires : tie.Need-nearest-i64-to-f64-requires
+nearest-i64-to-f64-requires c κs = search needs
 
 rem-euclid-4-requires : tie.Need-rem-euclid-4-requires
 rem-euclid-4-requires c κs = search needs
@@ -25,12 +24,14 @@ returns : tie.Need-returns
 unfolding sinReduced
 returns c =
     let d = c .before .before .before in
+    let q-back = back (d .f64-to-i64 .result) (d .f64-to-i64 .ok) in
     rw (
       c .by-quadrant .ensures,
       c .before .rem-euclid-4 .ensures,
-      back (d .rounded-to-i64 .result) (d .rounded-to-i64 .ok),
-      d .rounded-to-i64 .ensures,
-      c .before .before .rounded-again .ensures,
+      q-back,
+      c .before .before .nearest-i64-to-f64 .ensures,
+      q-back,
+      d .f64-to-i64 .ensures,
       d .before .round-f64 .ensures,
     )
 
@@ -39,8 +40,8 @@ sin-any-spec =
     tie.close
     (tie.spec
     round-f64-requires
-    rounded-to-i64-requires
-    rounded-again-requires
+    f64-to-i64-requires
+    nearest-i64-to-f64-requires
     rem-euclid-4-requires
     by-quadrant-requires
     returns)

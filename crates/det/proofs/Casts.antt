@@ -1,4 +1,4 @@
--- A rounded f64 between -2^52 and 2^52 is cast to an i64 and back with nothing lost. Assumes nothing.
+-- A rounded f64 between -2^52 and 2^52 is cast to an i64 with nothing lost. Assumes nothing.
 use mathlib.Core.Path.{_≡_, refl, sym, ap, _∙_, subst}
 use mathlib.Core.Bool.{Bool, true, false, cond}
 use Prim.Native.Nat.{ℕ, zero, suc, _+_, _-_, _*_, _/_, _^_, _<_, min}
@@ -14,9 +14,9 @@ use borrow.Author.Tests.{ltb-true, le-leb, lt-ltb, le-ltb}
 use mir.Syntax.{w64}
 use mir.Val.{toZ, ofZ}
 use Rattle.ieee.specs.Whole.{whole, halfUp, roundOf}
-use Rattle.ieee.specs.Numbers64.{c0}
-use Rattle.float.specs.Rounded.{noFraction}
+use Rattle.ieee.specs.Numbers64.{d0, d2^52}
+use Rattle.det.specs.Rounded.{noFraction}
 use Rattle.float.proofs.Signed.{back}
 
 -- ---- what is rounded has no fraction
 
@@ -44,7 +44,7 @@ pub record Inner (k : Float) : Type 0 where
 never : {A : Type 0} → false ≡ true → A
 never t = absurd (subst T (sym t) tt)
 
-pub inner : (k : Float) → T (noFraction k) → lt (neg (ofBits binary64 0x4330_0000_0000_0000)) k ≡ true → lt k (ofBits binary64 0x4330_0000_0000_0000) ≡ true → Inner k
+pub inner : (k : Float) → T (noFraction k) → lt (neg d2^52) k ≡ true → lt k d2^52 ≡ true → Inner k
 unfolding noFraction lt neg ofBits
 inner nan n l h = never l
 inner (inf true) n l h = never l
@@ -69,7 +69,7 @@ sum-zero false a = ap (λ (n : ℕ). round binary64 false n 1) (add-zero a)
 sum-zero true zero = refl
 sum-zero true (suc a) = rw (le-ltb (suc a) 0 (omega arith), lt-ltb 0 (suc a) (omega arith), sub-zero (suc a))
 
-add-zero-is : (s : Bool) (m e : ℕ) → add binary64 (fin s m (pos e)) c0 ≡ ofInt binary64 (signed s (m * 2 ^ e * 1))
+add-zero-is : (s : Bool) (m e : ℕ) → add binary64 (fin s m (pos e)) d0 ≡ ofInt binary64 (signed s (m * 2 ^ e * 1))
 unfolding add ofBits
 add-zero-is s m e = sum-zero s (m * 2 ^ e * 1)
 
@@ -100,13 +100,13 @@ module _ (k : Float) (I : Inner k) where
   small : mag (toSigned 63 k) < 2 ^ 53
   small = subst (λ (z : ℤ). mag z < 2 ^ 53) (sym number) (signed-small (I .s) (I .m * 2 ^ I .e * 1) (I .below))
 
-  pub again-is : add binary64 k c0 ≡ ofInt binary64 (toSigned 63 k)
-  again-is = ap (λ (x : Float). add binary64 x c0) (I .is) ∙ add-zero-is (I .s) (I .m) (I .e) ∙ ap (ofInt binary64) (sym number)
+  again-is : add binary64 k d0 ≡ ofInt binary64 (toSigned 63 k)
+  again-is = ap (λ (x : Float). add binary64 x d0) (I .is) ∙ add-zero-is (I .s) (I .m) (I .e) ∙ ap (ofInt binary64) (sym number)
 
-  pub cast-in : T (inSigned binary64 63 (add binary64 k c0))
+  pub cast-in : T (inSigned binary64 63 (add binary64 k d0))
   cast-in = subst (λ (x : Float). T (inSigned binary64 63 x)) (sym again-is) (there-and-back (toSigned 63 k) small .0)
 
-  pub cast-is : toZ w64 (ofZ w64 (toSigned 63 (add binary64 k c0))) ≡ toSigned 63 k
+  pub cast-is : toZ w64 (ofZ w64 (toSigned 63 (add binary64 k d0))) ≡ toSigned 63 k
   cast-is =
       ap (λ (x : Float). toZ w64 (ofZ w64 (toSigned 63 x))) again-is
       ∙ ap (λ (z : ℤ). toZ w64 (ofZ w64 z)) (there-and-back (toSigned 63 k) small .1)

@@ -1,8 +1,8 @@
--- `float::rounded::rounded_to_i64` meets its contract. Assumes nothing.
+-- `det::rounded::rounded_to_i64` meets its contract. Assumes nothing.
 use borrow.Author.Needs.{needs}
-use Rattle.float.proofs.Casts.{Inner, inner, cast-in, cast-is}
-use Rattle.float.proofs.rounded.rounded_to_i64.Statement.{statement}
-use Rattle.float.proofs.rounded.rounded_to_i64.Tie as tie
+use Rattle.det.proofs.Casts.{Inner, inner, cast-in, cast-is}
+use Rattle.det.proofs.rounded.rounded_to_i64.Statement.{statement}
+use Rattle.det.proofs.rounded.rounded_to_i64.Tie as tie
 
 near : (c : tie.Then2) → Inner (c .before .before .args .k)
 near c = inner (c .before .before .args .k) (c .before .before .pre) (c .before .if1 .taken) (c .if2 .taken)

@@ -1,4 +1,4 @@
--- What the casts of a rounded f64 ask of it.
+-- What the cast of a rounded f64 asks of it.
 use mathlib.Core.Bool.{Bool, true, false}
 use lib.IntN.{pos, negsuc}
 use lib.Ieee.{Float, nan, inf, fin}
