@@ -23,13 +23,13 @@ abbrev pub c0·9995 : Float
 c0·9995 = ofBits binary32 0x3f7fdf3b
 
 -- if phase < duty { 1.0 } else { -1.0 }
-unfoldable pub levelOf : Float → Float → Float
-levelOf phase duty = cond (lt phase duty) c1 (neg c1)
+unfoldable pub pulseLevel : Float → Float → Float
+pulseLevel phase duty = cond (lt phase duty) c1 (neg c1)
 
 -- v += poly_blep(phase, dt); v -= poly_blep(second, dt)
 unfoldable pub pulseOf : Float → Float → Float → Float → Float
-unfolding levelOf
-pulseOf phase duty second dt = levelOf phase duty ⊕ polyBlep phase dt ⊖ polyBlep second dt
+unfolding pulseLevel
+pulseOf phase duty second dt = pulseLevel phase duty ⊕ polyBlep phase dt ⊖ polyBlep second dt
 
 unfoldable pub squareAt : Float → Float → Float → Float → PhaseOut
 unfolding pulseOf
