@@ -1,4 +1,5 @@
-// Waves made of two jumps a period, each smoothed by its residual.
+// The square and the triangle: two jumps a period, each smoothed by its residual, which keeps it from
+// aliasing. The triangle is the square summed up, with a leak that keeps the sum about zero.
 ghost use mathlib.Core.Path.{_≡_};
 ghost use lib.ListN.{length};
 ghost use lib.Ieee.{binary32};
