@@ -3,7 +3,8 @@
 -- it rounds to at most that. Any other frame is at least p / q, which rounds to c. Assumes nothing.
 use mathlib.Core.Path.{_≡_, refl, sym, ap, _∙_}
 use Prim.Native.Nat.{ℕ, zero, suc, _+_, _-_, _*_, _/_, _^_, _≤_, _<_, min}
-use native.Mathlib.Nat.{le-of-lt, le-trans, le-of-eq, lt-of-lt-of-le, zero-lt-suc, add-mul, one-mul, mul-assoc, mul-comm, mul-right-comm, mul-suc, mul-le-mul-left, mul-le-mul-right, mul-lt-mul-of-pos-right, le-of-mul-le-mul-left, le-div-iff-mul-le}
+use native.Mathlib.Nat.{le-of-lt, le-trans, le-of-eq, lt-of-lt-of-le, zero-lt-suc, add-mul, one-mul, mul-assoc, mul-comm, mul-right-comm, mul-suc}
+use native.Mathlib.Nat.{mul-le-mul-left, mul-le-mul-right, mul-lt-mul-of-pos-right, le-of-mul-le-mul-left, le-div-iff-mul-le}
 use native.Mathlib.Omega.{arith}
 use mathlib.Core.Bool.{Bool, true, false, cond}
 use lib.Dec.{T, ltb, leb, ltb→lt, lt→ltb, leb→le}
@@ -18,12 +19,12 @@ use Rattle.ieee.proofs.Exactly.{round-value}
 use Rattle.ieee.proofs.Bounds.{at-most-lt, at-least-lt}
 use Rattle.ieee.proofs.Range.{div-at-most, div-at-least}
 use Rattle.dsl.specs.Domain.{Rate}
-use Rattle.counts.specs.Draws.{framesIn, passing}
+use Rattle.counts.specs.Draws.{framesWithin, passing}
 use Rattle.dsl.proofs.Exact.{f32-value, rate-value, rate-pos}
 
 -- c is (num + 1) / 2^places, the f32 nearest to p / q, and num / 2^places is an f32, so the one before c; it falls short of p / q by at most
 -- gap / (q × 2^places), and that is at most 1 / (q × 192,000).
-pub record Seconds (c : Float) (p q : ℕ) : Type 0 where
+pub record Fraction (c : Float) (p q : ℕ) : Type 0 where
   pub num : ℕ
   pub places : ℕ
   pub gap : ℕ
@@ -36,13 +37,13 @@ pub record Seconds (c : Float) (p q : ℕ) : Type 0 where
   pub part : 0 < q
 
 -- all of it computes
-seconds :
+fraction :
     {c : Float} {p q : ℕ} (num places gap : ℕ) →
     HasValue c false (suc num) (2 ^ places) →
     HasValue (round binary32 false p q) false (suc num) (2 ^ places) →
     T (ltb num (2 ^ 24)) × T (leb places 149) × T (leb (p * 2 ^ places) (q * num + gap)) × T (leb (192000 * gap) (2 ^ places)) × T (ltb 0 q) →
-    Seconds c p q
-seconds num places gap v w t = record {
+    Fraction c p q
+fraction num places gap v w t = record {
   num = num;
   places = places;
   gap = gap;
@@ -56,31 +57,32 @@ seconds num places gap v w t = record {
 }
 
 -- the piano's thump
-pub c0·006-seconds : Seconds c0·006 3 500
+pub c0·006-fraction : Fraction c0·006 3 500
 unfolding ofBits round odd size
-c0·006-seconds = seconds 12884901 31 444 (refl, refl) (refl, refl) (tt, tt, tt, tt, tt)
+c0·006-fraction = fraction 12884901 31 444 (refl, refl) (refl, refl) (tt, tt, tt, tt, tt)
 
 -- the noises of the drum kit: 0.002, 0.003, 0.004 and 0.018
-pub c0·002-seconds : Seconds (ofBits binary32 0x3b03126f) 1 500
+pub c0·002-fraction : Fraction (ofBits binary32 0x3b03126f) 1 500
 unfolding ofBits round odd size
-c0·002-seconds = seconds 8589934 32 296 (refl, refl) (refl, refl) (tt, tt, tt, tt, tt)
+c0·002-fraction = fraction 8589934 32 296 (refl, refl) (refl, refl) (tt, tt, tt, tt, tt)
 
-pub c0·003-seconds : Seconds (ofBits binary32 0x3b449ba6) 3 1000
+pub c0·003-fraction : Fraction (ofBits binary32 0x3b449ba6) 3 1000
 unfolding ofBits round odd size
-c0·003-seconds = seconds 12884901 32 888 (refl, refl) (refl, refl) (tt, tt, tt, tt, tt)
+c0·003-fraction = fraction 12884901 32 888 (refl, refl) (refl, refl) (tt, tt, tt, tt, tt)
 
-pub c0·004-seconds : Seconds (ofBits binary32 0x3b83126f) 1 250
+pub c0·004-fraction : Fraction (ofBits binary32 0x3b83126f) 1 250
 unfolding ofBits round odd size
-c0·004-seconds = seconds 8589934 31 148 (refl, refl) (refl, refl) (tt, tt, tt, tt, tt)
+c0·004-fraction = fraction 8589934 31 148 (refl, refl) (refl, refl) (tt, tt, tt, tt, tt)
 
-pub c0·018-seconds : Seconds (ofBits binary32 0x3c9374bc) 9 500
+pub c0·018-fraction : Fraction (ofBits binary32 0x3c9374bc) 9 500
 unfolding ofBits round odd size
-c0·018-seconds = seconds 9663675 29 708 (refl, refl) (refl, refl) (tt, tt, tt, tt, tt)
+c0·018-fraction = fraction 9663675 29 708 (refl, refl) (refl, refl) (tt, tt, tt, tt, tt)
 
 -- ---- on which side i / rate lies
 early : (i rate p q b d M : ℕ) → 0 < q → rate ≤ 192000 → q * i < p * rate → p * M ≤ q * b + d → 192000 * d ≤ M → i * 1 * M ≤ b * (rate * 1)
 early i rate p q b d M Q most h near small =
-    let less : q * i * M + M ≤ p * M * rate = le-trans (le-of-eq (sym (add-mul (q * i) 1 M ∙ ap (λ (x : ℕ). q * i * M + x) (one-mul M)))) (le-trans (mul-le-mul-right M (after i rate p q h)) (le-of-eq (mul-right-comm p rate M))) in
+    let one-more : (q * i + 1) * M ≡ q * i * M + M = add-mul (q * i) 1 M ∙ ap (λ (x : ℕ). q * i * M + x) (one-mul M) in
+    let less : q * i * M + M ≤ p * M * rate = le-trans (le-of-eq (sym one-more)) (le-trans (mul-le-mul-right M (after i rate p q h)) (le-of-eq (mul-right-comm p rate M))) in
     let far : p * M * rate ≤ q * b * rate + d * rate = le-trans (mul-le-mul-right rate near) (le-of-eq (add-mul (q * b) d rate)) in
     let gap : d * rate ≤ d * 192000 = mul-le-mul-left d most in
     let both : q * i * M ≤ q * b * rate = omega arith in
@@ -105,7 +107,7 @@ passing-first test h (suc n) p = go (ltb n h) refl (p n (omega arith)) (passing-
     go true e t c = let l : n < h = ltb-true n h e in rw (t, e) (omega arith)
     go false e t c = let l : h ≤ n = ltb-false n h e in rw (t, e) (omega arith)
 
-module _ {c : Float} {p q : ℕ} (w : Seconds c p q) where
+module _ {c : Float} {p q : ℕ} (w : Fraction c p q) where
   module _ (rate i : ℕ) (r : Rate rate) (fits : i < 2 ^ 24) where
     below : q * i < p * rate → lt (f32 i ⊘ f32 rate) c ≡ true
     below h =
@@ -140,11 +142,11 @@ module _ {c : Float} {p q : ℕ} (w : Seconds c p q) where
         go false e = above (ltb-false (q * i) (p * rate) e) ∙ sym e
 
     -- so the frames that pass it are the first ones
-    pub early-first : lt (f32 i ⊘ f32 rate) c ≡ ltb i (framesIn p q rate)
+    pub early-first : lt (f32 i ⊘ f32 rate) c ≡ ltb i (framesWithin p q rate)
     early-first =
         early-is
-        ∙ same-test (ltb (q * i) (p * rate)) (ltb i (framesIn p q rate)) (λ t. lt→ltb i (framesIn p q rate) (up i q (p * rate) (w .part) (ltb→lt (q * i) (p * rate) t)))
-        (λ t. lt→ltb (q * i) (p * rate) (down i q (p * rate) (w .part) (ltb→lt i (framesIn p q rate) t)))
+        ∙ same-test (ltb (q * i) (p * rate)) (ltb i (framesWithin p q rate)) (λ t. lt→ltb i (framesWithin p q rate) (up i q (p * rate) (w .part) (ltb→lt (q * i) (p * rate) t)))
+        (λ t. lt→ltb (q * i) (p * rate) (down i q (p * rate) (w .part) (ltb→lt i (framesWithin p q rate) t)))
       where
         raised : (i q x : ℕ) → 0 < q → q * i < x → suc i * q ≡ q * i + q → suc i * q ≤ x + (q - 1)
         raised i q x Q h e = omega arith
@@ -159,5 +161,5 @@ module _ {c : Float} {p q : ℕ} (w : Seconds c p q) where
         down i q x Q h = lowered i q x Q (le-div-iff-mul-le Q .0 h) (mul-comm (suc i) q ∙ mul-suc q i)
 
   -- and how many of the first n they are
-  pub early-count : (rate n : ℕ) → Rate rate → n ≤ 2 ^ 24 → passing (λ i. lt (f32 i ⊘ f32 rate) c) n ≡ min n (framesIn p q rate)
-  early-count rate n r h = passing-first (λ i. lt (f32 i ⊘ f32 rate) c) (framesIn p q rate) n (λ i l. early-first rate i r (lt-of-lt-of-le l h))
+  pub early-count : (rate n : ℕ) → Rate rate → n ≤ 2 ^ 24 → passing (λ i. lt (f32 i ⊘ f32 rate) c) n ≡ min n (framesWithin p q rate)
+  early-count rate n r h = passing-first (λ i. lt (f32 i ⊘ f32 rate) c) (framesWithin p q rate) n (λ i l. early-first rate i r (lt-of-lt-of-le l h))

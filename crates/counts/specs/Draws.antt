@@ -12,11 +12,11 @@ abbrev pub thumps : Float → Bool
 thumps t = lt t c0·006
 
 -- p × rate / q, rounded up: the frames that lie within the first p / q seconds
-abbrev pub framesIn : ℕ → ℕ → ℕ → ℕ
-framesIn p q rate = (p * rate + (q - 1)) / q
+abbrev pub framesWithin : ℕ → ℕ → ℕ → ℕ
+framesWithin p q rate = (p * rate + (q - 1)) / q
 
 abbrev pub thumpFrames : ℕ → ℕ
-thumpFrames = framesIn 3 500
+thumpFrames = framesWithin 3 500
 
 unfoldable pub drawsOf : SeqWave → ℕ → Float → ℕ → ℕ
 drawsOf Square rate first frames = 0

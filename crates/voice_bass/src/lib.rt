@@ -1,5 +1,6 @@
 // The bass: a saw through a lowpass whose cutoff falls from the attack, higher in a louder note, with
-// a click and some drive, over a sine sub. Each number is a knob.
+// a click and some drive, over a sine sub. Each number is a knob; nothing is drawn, so that the click
+// is the same in every note.
 ghost use mathlib.Core.Path.{_≡_};
 ghost use lib.ListN.{length};
 ghost use Rattle.dsl.specs.Domain.{Frames};

@@ -36,13 +36,13 @@ abbrev pub c5·43 : Float
 c5·43 = ofBits binary32 0x40adc28f
 
 -- g * exp(-t / decay.max(1e-3)) * sin(TAU * phase)
-unfoldable pub partialOf : Float → Float → Float → Float → Float
-partialOf phase t g decay = g ⊗ expOf (neg t ⊘ maxOf decay c0·001) ⊗ sinOf (TAU ⊗ phase)
+unfoldable pub bellPartial : Float → Float → Float → Float → Float
+bellPartial phase t g decay = g ⊗ expOf (neg t ⊘ maxOf decay c0·001) ⊗ sinOf (TAU ⊗ phase)
 
 -- the partials by gain and decay, and the twin
 unfoldable pub bellSum : BellState → Float → Float
 bellSum s t =
-    c0 ⊕ partialOf (s .ph0) t c1 c3 ⊕ partialOf (s .ph1) t c0·6 c1·5 ⊕ partialOf (s .ph2) t c0·4 c0·8 ⊕ partialOf (s .ph3) t c0·3 c0·4 ⊕ partialOf (s .ph4) t c0·2 c0·25
+    c0 ⊕ bellPartial (s .ph0) t c1 c3 ⊕ bellPartial (s .ph1) t c0·6 c1·5 ⊕ bellPartial (s .ph2) t c0·4 c0·8 ⊕ bellPartial (s .ph3) t c0·3 c0·4 ⊕ bellPartial (s .ph4) t c0·2 c0·25
     ⊕ expOf (neg t ⊘ c3) ⊗ sinOf (TAU ⊗ s .twin)
 
 -- each phase moves by its ratio

@@ -4,7 +4,7 @@ ghost use mathlib.Core.Path.{_≡_};
 ghost use lib.ListN.{length};
 ghost use Rattle.dsl.specs.Domain.{Frames};
 ghost use Rattle.dsl.specs.Pitch.{pitchAt, reaches};
-ghost use Rattle.voice_bell.specs.Bell.{partialOf, bellSum, bellNext, bellAt, bellFrames};
+ghost use Rattle.voice_bell.specs.Bell.{bellPartial, bellSum, bellNext, bellAt, bellFrames};
 use dsl::Pitch;
 
 // The phases of the five partials and of the twin.
@@ -24,7 +24,7 @@ struct BellOut {
 
 // A partial of a gain and a decay in seconds, at time t.
 fn partial(phase: f32, t: f32, gain: f32, decay: f32) -> f32
-    ensures { λ r. ⌜ r ≡ partialOf phase t gain decay ⌝ }
+    ensures { λ r. ⌜ r ≡ bellPartial phase t gain decay ⌝ }
 {
     gain * dsp::exp(-t / float::max_f32(decay, 0.001)) * dsp::sin(dsp::TAU * phase)
 }

@@ -1,4 +1,5 @@
--- `brass_note` of render/seq.rs, operation by operation; its sum starts at 0.0. `low` and `high` are its two phases, `fi` is the pitch at frame i, `f` the pitch by frame, `gain` the note's own, `srf` the rate.
+-- `brass_note` of render/seq.rs, operation by operation; its sum starts at 0.0. `low` and `high` are its two phases, `fi`
+-- is the pitch at frame i, `f` the pitch by frame, `gain` the note's own, `srf` the rate.
 use Prim.Native.Nat.{ℕ}
 use mathlib.Core.List.{List}
 use lib.Ieee.{Float, binary32, ofBits, neg}

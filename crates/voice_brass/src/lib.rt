@@ -1,5 +1,5 @@
-// Brass: two saws, detuned by 0.4 percent down and up, through a lowpass whose cutoff swells over the
-// first 70 ms, the blat of a horn's attack. A louder note opens the filter further.
+// Brass: two saws, detuned by 0.4 percent down and up, through a lowpass whose cutoff swells from 800
+// to 2,200 hertz over the first 70 ms, the blat of a horn's attack. A louder note opens it further.
 ghost use mathlib.Core.Path.{_≡_};
 ghost use lib.ListN.{length};
 ghost use Rattle.dsl.specs.Domain.{Frames};

@@ -1,5 +1,6 @@
-// The concert flute: a sine with a vibrato that fades in, over breath, which is white noise through a
-// one-pole lowpass, more of it in a louder note. Each frame draws once.
+// The concert flute: a sine with a vibrato of 5.5 hertz that fades in, as a player settles into the
+// note, over breath, which is white noise through a one-pole lowpass, more of it in a louder note. Each
+// frame draws once, in order.
 ghost use mathlib.Core.Path.{_≡_};
 ghost use lib.ListN.{length};
 ghost use Rattle.dsl.specs.Domain.{Frames};

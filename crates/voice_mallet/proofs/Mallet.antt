@@ -23,6 +23,7 @@ pub mallet-frame :
     ph₁ ≡ wrapped (s .ph1 ⊕ dt ⊗ c3·9) →
     ph₂ ≡ wrapped (s .ph2 ⊕ dt ⊗ c9·2) →
     let bright = c0·4 ⊕ c0·6 ⊗ gain in
-    _≡_ {A = MalletOut} (record { sample = c0·7 ⊗ (sin₀ ⊕ bright ⊗ c0·5 ⊗ fade₁ ⊗ sin₁ ⊕ bright ⊗ c0·25 ⊗ fade₂ ⊗ sin₂); state = record { ph0 = ph₀; ph1 = ph₁; ph2 = ph₂ } }) (malletAt fi gain srf i s)
+    let sum = sin₀ ⊕ bright ⊗ c0·5 ⊗ fade₁ ⊗ sin₁ ⊕ bright ⊗ c0·25 ⊗ fade₂ ⊗ sin₂ in
+    _≡_ {A = MalletOut} (record { sample = c0·7 ⊗ sum; state = record { ph0 = ph₀; ph1 = ph₁; ph2 = ph₂ } }) (malletAt fi gain srf i s)
 unfolding malletAt
 mallet-frame fi gain srf i s a b c d e g h j k l = rw (l, k, j, h, g, e, d, c, b, a)

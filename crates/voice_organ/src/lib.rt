@@ -1,5 +1,6 @@
-// The tonewheel organ: five drawbars over half the pitch, 16', 8', 4', 2 2/3' and 2', each a whole
-// multiple of it, and a percussion that pings on the attack.
+// The tonewheel organ: five drawbars, 16', 8', 4', 2 2/3' and 2', and a percussion that pings on the
+// attack. The phase runs at half the pitch, so that each bar is a whole multiple of it and wraps
+// without a jump.
 ghost use mathlib.Core.Path.{_≡_};
 ghost use lib.ListN.{length};
 ghost use Rattle.dsl.specs.Domain.{Frames};

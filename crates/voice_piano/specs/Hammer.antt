@@ -2,9 +2,8 @@
 use Prim.Native.Nat.{ℕ, zero, suc}
 use mathlib.Core.Bool.{cond}
 use mathlib.Core.List.{List, [], _∷_}
-use lib.IntN.{pos}
-use lib.Ieee.{Float, binary32, ofInt, lt}
-use Rattle.ieee.specs.Numbers.{c0, c0·001, c0·01, c0·45, c0·5, c0·55, c1, c10, c20}
+use lib.Ieee.{Float, binary32, lt}
+use Rattle.ieee.specs.Numbers.{c0, c0·001, c0·01, c0·45, c0·5, c0·55, c1, c10, c20, f32}
 use Rattle.ieee.specs.Binary32.{_⊕_, _⊖_, _⊗_, _⊘_}
 use Rattle.ieee.specs.Order.{maxOf, clampOf}
 use Rattle.ieee.specs.Root.{sqrtOf}
@@ -30,16 +29,12 @@ blowOf k gain pitch =
       hammer = maxOf (k .«piano_hammer») c0·001;
     }
 
--- the number of a partial, `k as f32`
-abbrev pub number : ℕ → Float
-number k = ofInt binary32 (pos k)
-
 unfoldable pub ratioOf : Float → ℕ → Float
-ratioOf stretch k = let kf = number k in kf ⊗ sqrtOf (c1 ⊕ stretch ⊗ kf ⊗ kf)
+ratioOf stretch k = let kf = f32 k in kf ⊗ sqrtOf (c1 ⊕ stretch ⊗ kf ⊗ kf)
 
 unfoldable pub partialOf : Blow → Float → ℕ → Float → Partial
 partialOf b srf k ratio =
-    let kf = number k in
+    let kf = f32 k in
     let notch = absOf (sinOf (PI ⊗ kf ⊗ b .strike)) in
     let decay = maxOf (b .decay ⊘ (c1 ⊕ c0·55 ⊗ (kf ⊖ c1))) c0·05 in
     record {

@@ -1,4 +1,5 @@
-// The struck strings of render/seq.rs: `piano_note`.
+// The grand piano of render/seq.rs: `piano_note`. It draws for the 6 milliseconds of the hammer's
+// thump and then nothing.
 mod hammer; // hammer.rt: the blow on a piano string, and its partials
 mod piano; // piano.rt: the piano
 mod wires; // wires.rt: the strings of a piano note as they sound

@@ -25,7 +25,7 @@ module _ (l : List Float) (s period : ℕ) (fits : period ≤ length l) where
     length-drawn = ap length all-drawn ∙ noise-length s period
 
     -- what is lent the second time
-    pub lent-drawn : take period (p ++ drop period l) ≡ noiseFrames s period
+    lent-drawn : take period (p ++ drop period l) ≡ noiseFrames s period
     lent-drawn = take-at p (drop period l) period length-drawn ∙ all-drawn
 
     pub lent-length : period ≡ length (take period (p ++ drop period l))

@@ -1,8 +1,8 @@
 -- `pluck_note` of render/seq.rs. `s` is the generator's state before the note, `period` the number of the string's values, `srf` the rate.
 use Prim.Native.Nat.{ℕ, _+_, _%_}
 use mathlib.Core.Bool.{cond}
-use mathlib.Core.List.{List}
-use lib.ListN.{length, getD, set}
+use mathlib.Core.List.{List, _++_}
+use lib.ListN.{length, getD, set, drop}
 use lib.Ieee.{Float, nan, lt}
 use Rattle.ieee.specs.Numbers.{c0, c0·008, c0·3, c0·5, c0·6, c0·9, c1}
 use Rattle.laws.specs.Run.{stateAt, samples}
@@ -84,3 +84,7 @@ pluckFrames k srf period s n = ringFrames k (timbreOf (k .«pluck_tone») srf) s
 
 abbrev pub pluckString : PluckKnobs → Float → ℕ → ℕ → ℕ → List Float
 pluckString k srf period s n = ringAfter k (timbreOf (k .«pluck_tone») srf) srf (noiseFrames s period) n
+
+-- what the note leaves of the buffer l that it is lent: the values past the period stay
+abbrev pub pluckLeft : PluckKnobs → Float → ℕ → ℕ → ℕ → List Float → List Float
+pluckLeft k srf period s n l = pluckString k srf period s n ++ drop period l

@@ -1,4 +1,4 @@
-// The plucked string of render/seq.rs: `pluck_note`.
+// The plucked string of render/seq.rs: `pluck_note`. It draws a period of noise and then nothing.
 mod guitar; // guitar.rt: the tone of a note, and the resonances of the body
 mod pluck; // pluck.rt: the plucked string
 

@@ -2,15 +2,14 @@
 // damps each time round, with a pick's click and a guitar's body. At their defaults the tone, body and
 // pick change nothing.
 ghost use mathlib.Core.Path.{_≡_};
-ghost use mathlib.Core.List.{_++_};
 ghost use Prim.Native.Nat.{_+_, _%_, _≤_, _<_};
-ghost use lib.ListN.{length, drop};
+ghost use lib.ListN.{length};
 ghost use Rattle.ieee.specs.Numbers.{f32};
 ghost use Rattle.dsl.specs.Domain.{Rate, Frames};
 ghost use Rattle.dsl.specs.Pitch.{pitchAt, reaches};
 ghost use Rattle.counts.specs.Period.{periodOf};
 ghost use Rattle.rng.specs.SplitMix64.{stateAfter};
-ghost use Rattle.voice_pluck.specs.Pluck.{picked, plucked, atRest, ringFrames, ringAfter, pluckFrames, pluckString};
+ghost use Rattle.voice_pluck.specs.Pluck.{picked, plucked, atRest, ringFrames, ringAfter, pluckFrames, pluckLeft};
 use crate::guitar::Echo;
 use crate::guitar::Echoes;
 use crate::guitar::Timbre;
@@ -156,7 +155,7 @@ fn sound_string(
     requires { ⌜ period ≤ length (now string) ⌝ }
     requires { ⌜ Frames (length (now out)) ⌝ }
     ensures { λ _. ⌜ now (out .exit) ≡ pluckFrames knobs srf period (rng .0) (length (now (out .entry))) ⌝ }
-    ensures { λ _. ⌜ now (string .exit) ≡ pluckString knobs srf period (rng .0) (length (now (out .entry))) ++ drop period (now (string .entry)) ⌝ }
+    ensures { λ _. ⌜ now (string .exit) ≡ pluckLeft knobs srf period (rng .0) (length (now (out .entry))) (now (string .entry)) ⌝ }
     ensures { λ r. ⌜ r .0 ≡ stateAfter (rng .0) period ⌝ }
 {
     let after = voice_noise::noise(rng, &mut string[..period]);
@@ -182,7 +181,7 @@ pub fn pluck_note(
     requires { ⌜ Frames (length (now out)) ⌝ }
     requires { ⌜ 9600 ≤ length (now string) ⌝ }
     ensures { λ _. ⌜ now (out .exit) ≡ pluckFrames knobs (f32 rate) (periodOf rate (pitchAt pitch (now (lane .entry)) 0)) (rng .0) (length (now (out .entry))) ⌝ }
-    ensures { λ _. ⌜ now (string .exit) ≡ pluckString knobs (f32 rate) (periodOf rate (pitchAt pitch (now (lane .entry)) 0)) (rng .0) (length (now (out .entry))) ++ drop (periodOf rate (pitchAt pitch (now (lane .entry)) 0)) (now (string .entry)) ⌝ }
+    ensures { λ _. ⌜ now (string .exit) ≡ pluckLeft knobs (f32 rate) (periodOf rate (pitchAt pitch (now (lane .entry)) 0)) (rng .0) (length (now (out .entry))) (now (string .entry)) ⌝ }
     ensures { λ r. ⌜ r .0 ≡ stateAfter (rng .0) (periodOf rate (pitchAt pitch (now (lane .entry)) 0)) ⌝ }
 {
     let period = counts::string_period(rate, pitch.at(lane, 0));

@@ -19,12 +19,10 @@ fmIndex knobs gain srf i =
     knobs .«fm_index» ⊗ (c0·4 ⊕ c0·6 ⊗ gain) ⊗ expOf (neg t ⊘ maxOf (knobs .«fm_strike») c0·001)
 
 unfoldable pub fmAt : Float → FmKnobs → Float → Float → ℕ → FmState → FmOut
-unfolding fmIndex
 fmAt fi knobs gain srf i s =
     let dt = increment fi srf in
     let m = fmIndex knobs gain srf i ⊗ sinOf (TAU ⊗ s .mph) in
     record { sample = sinOf (TAU ⊗ s .cph ⊕ m); state = record { cph = wrapped (s .cph ⊕ dt); mph = wrapped (s .mph ⊕ dt ⊗ knobs .«fm_ratio») } }
 
 unfoldable pub fmFrames : (ℕ → Float) → FmKnobs → Float → Float → ℕ → List Float
-unfolding fmAt
 fmFrames f knobs gain srf n = samples (λ i. fmAt (f i) knobs gain srf i) (λ r. r .sample) (λ r. r .state) (record { cph = c0; mph = c0 }) n

@@ -16,12 +16,10 @@ sawtoothAt fi srf phase =
     record { sample = sawOf phase dt; state = wrapped (phase ⊕ dt) }
 
 unfoldable pub sawtoothFrames : (ℕ → Float) → Float → ℕ → List Float
-unfolding sawtoothAt
 sawtoothFrames f srf n = samples (λ i. sawtoothAt (f i) srf) (λ r. r .sample) (λ r. r .state) c0 n
 
 unfoldable pub sineAt : Float → Float → Float → PhaseOut
 sineAt fi srf phase = record { sample = oscOf Sine phase; state = wrapped (phase ⊕ increment fi srf) }
 
 unfoldable pub sineFrames : (ℕ → Float) → Float → ℕ → List Float
-unfolding sineAt
 sineFrames f srf n = samples (λ i. sineAt (f i) srf) (λ r. r .sample) (λ r. r .state) c0 n

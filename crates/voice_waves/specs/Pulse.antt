@@ -23,27 +23,23 @@ abbrev pub c0·9995 : Float
 c0·9995 = ofBits binary32 0x3f7fdf3b
 
 -- if phase < duty { 1.0 } else { -1.0 }
-unfoldable pub levelOf : Float → Float → Float
-levelOf phase duty = cond (lt phase duty) c1 (neg c1)
+unfoldable pub pulseLevel : Float → Float → Float
+pulseLevel phase duty = cond (lt phase duty) c1 (neg c1)
 
 -- v += poly_blep(phase, dt); v -= poly_blep(second, dt)
 unfoldable pub pulseOf : Float → Float → Float → Float → Float
-unfolding levelOf
-pulseOf phase duty second dt = levelOf phase duty ⊕ polyBlep phase dt ⊖ polyBlep second dt
+pulseOf phase duty second dt = pulseLevel phase duty ⊕ polyBlep phase dt ⊖ polyBlep second dt
 
 unfoldable pub squareAt : Float → Float → Float → Float → PhaseOut
-unfolding pulseOf
 squareAt fi di srf phase =
     let dt = increment fi srf in
     let duty = clampOf di c0·01 c0·99 in
     record { sample = pulseOf phase duty (fractOf binary32 (phase ⊖ duty ⊕ c1)) dt; state = wrapped (phase ⊕ dt) }
 
 unfoldable pub squareFrames : (ℕ → Float) → (ℕ → Float) → Float → ℕ → List Float
-unfolding squareAt
 squareFrames f d srf n = samples (λ i. squareAt (f i) (d i) srf) (λ r. r .sample) (λ r. r .state) c0 n
 
 unfoldable pub triangleAt : Float → Float → TriangleState → TriangleOut
-unfolding pulseOf
 triangleAt fi srf s =
     let dt = increment fi srf in
     let sq = pulseOf (s .phase) c0·5 (fractOf binary32 (s .phase ⊕ c0·5)) dt in
@@ -51,5 +47,4 @@ triangleAt fi srf s =
     record { sample = tri; state = record { phase = wrapped (s .phase ⊕ dt); tri = tri } }
 
 unfoldable pub triangleFrames : (ℕ → Float) → Float → ℕ → List Float
-unfolding triangleAt
 triangleFrames f srf n = samples (λ i. triangleAt (f i) srf) (λ r. r .sample) (λ r. r .state) (record { phase = c0; tri = c0 }) n

@@ -1,4 +1,5 @@
-// A sine whose phase is moved by another sine.
+// Frequency modulation: a sine whose phase is moved by another sine. How far it is moved, the
+// brightness, decays from the attack like a hammer's strike; a louder note strikes brighter.
 ghost use mathlib.Core.Path.{_≡_};
 ghost use lib.ListN.{length};
 ghost use Rattle.dsl.specs.Domain.{Frames};

@@ -1,4 +1,5 @@
-// Waves whose state is one phase and that need nothing but their pitch.
+// The sawtooth and the sine, whose state is one phase and which need nothing but their pitch. The
+// sawtooth's one jump a period is smoothed by its residual, which keeps it from aliasing.
 ghost use mathlib.Core.Path.{_≡_};
 ghost use lib.ListN.{length};
 ghost use Rattle.dsl.specs.Domain.{Frames};

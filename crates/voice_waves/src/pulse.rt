@@ -1,17 +1,18 @@
-// Waves made of two jumps a period, each smoothed by its residual.
+// The square and the triangle: two jumps a period, each smoothed by its residual, which keeps it from
+// aliasing. The triangle is the square summed up, with a leak that keeps the sum about zero.
 ghost use mathlib.Core.Path.{_≡_};
 ghost use lib.ListN.{length};
 ghost use lib.Ieee.{binary32};
 ghost use Rattle.ieee.specs.Whole.{fractOf};
 ghost use Rattle.dsl.specs.Domain.{Frames};
 ghost use Rattle.dsl.specs.Pitch.{pitchAt, reaches};
-ghost use Rattle.voice_waves.specs.Pulse.{levelOf, pulseOf, squareAt, squareFrames, triangleAt, triangleFrames};
+ghost use Rattle.voice_waves.specs.Pulse.{pulseLevel, pulseOf, squareAt, squareFrames, triangleAt, triangleFrames};
 use crate::plain::PhaseOut;
 use dsl::Pitch;
 
 // 1 before the second jump, -1 after it.
 fn level(phase: f32, duty: f32) -> f32
-    ensures { λ r. ⌜ r ≡ levelOf phase duty ⌝ }
+    ensures { λ r. ⌜ r ≡ pulseLevel phase duty ⌝ }
 {
     if phase < duty { 1.0 } else { -1.0 }
 }

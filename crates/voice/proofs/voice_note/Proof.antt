@@ -80,13 +80,16 @@ returns-2 c =
     let start = c .before .before .before .before .before .before .before .before .before .before .before .before .before .before in
     let note = c .before .before .before .before .pluck-note .ensures in
     let fits = period-fits (start .args .rate) (start .pre .0) _ in
-    rw (c .before .before .before .before .before .before .before .enum-told7 .given .1) (note .1 .1, (note .0, pluck-kept (start .args .voice .pluck) _ _ (start .args .rng .0) _ _ _ (note .1 .0) fits))
+    let kept = pluck-kept (start .args .voice .pluck) _ _ (start .args .rng .0) _ _ _ (note .1 .0) fits in
+    rw (c .before .before .before .before .before .before .before .enum-told7 .given .1) (note .1 .1, (note .0, kept))
 
 enum-told-8 : tie.Need-enum-told-8
 enum-told-8 c = c .match .keys8
 
 piano-note-requires : tie.Need-piano-note-requires
-piano-note-requires c κs = (c .before .before .before .before .before .before .before .before .pre .0, (c .before .before .before .before .before .before .before .before .pre .1 .1 .1 .1 .0, c .before .before .before .before .before .before .before .before .pre .1 .1 .0))
+piano-note-requires c κs =
+    let given = c .before .before .before .before .before .before .before .before .pre in
+    (given .0, (given .1 .1 .1 .1 .0, given .1 .1 .0))
 
 same-length-4 : tie.Need-same-length-4
 same-length-4 c = c .before .before .piano-note .kept .1 .1 .1 .1 .1 .1 .0
@@ -130,7 +133,9 @@ same-length-5 c = c .before .before .flute-note .kept .1 .1 .1 .1 .1 .0
 
 returns-4 : tie.Need-returns-4
 unfolding drawsOf waveFrames
-returns-4 c = rw (c .before .before .before .before .enum-told13 .given .1) (c .before .before .flute-note .ensures .1, (rw (c .before .before .before .before .before .before .nearest-u32-to-f32 .ensures) at (c .before .before .flute-note .ensures .0), refl))
+returns-4 c =
+    let note = c .before .before .flute-note .ensures in
+    rw (c .before .before .before .before .enum-told13 .given .1) (note .1, (rw (c .before .before .before .before .before .before .nearest-u32-to-f32 .ensures) at (note .0), refl))
 
 enum-told-14 : tie.Need-enum-told-14
 enum-told-14 c = c .match .keys14

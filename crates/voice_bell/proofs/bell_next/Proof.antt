@@ -24,7 +24,15 @@ wrap-requires-6 c κs = search needs
 
 returns : tie.Need-returns
 unfolding bellNext
-returns c = rw (c .wrap6 .ensures, c .before .before .wrap5 .ensures, c .before .before .before .before .wrap4 .ensures, c .before .before .before .before .before .before .wrap3 .ensures, c .before .before .before .before .before .before .before .before .wrap2 .ensures, c .before .before .before .before .before .before .before .before .before .before .wrap .ensures)
+returns c =
+    rw (
+      c .wrap6 .ensures,
+      c .before .before .wrap5 .ensures,
+      c .before .before .before .before .wrap4 .ensures,
+      c .before .before .before .before .before .before .wrap3 .ensures,
+      c .before .before .before .before .before .before .before .before .wrap2 .ensures,
+      c .before .before .before .before .before .before .before .before .before .before .wrap .ensures,
+    )
 
 pub bell-next-spec : {M : Type 1} → statement M
 bell-next-spec =

@@ -27,7 +27,16 @@ sin-requires c κs = search needs
 
 returns : tie.Need-returns
 unfolding bellSum
-returns c = rw (c .sin .ensures, c .before .before .exp .ensures, c .before .before .before .partial5 .ensures, c .before .before .before .before .partial4 .ensures, c .before .before .before .before .before .partial3 .ensures, c .before .before .before .before .before .before .partial2 .ensures, c .before .before .before .before .before .before .before .partial .ensures)
+returns c =
+    rw (
+      c .sin .ensures,
+      c .before .before .exp .ensures,
+      c .before .before .before .partial5 .ensures,
+      c .before .before .before .before .partial4 .ensures,
+      c .before .before .before .before .before .partial3 .ensures,
+      c .before .before .before .before .before .before .partial2 .ensures,
+      c .before .before .before .before .before .before .before .partial .ensures,
+    )
 
 pub bell-sum-spec : {M : Type 1} → statement M
 bell-sum-spec =

@@ -1,5 +1,5 @@
 -- `voice_bell::partial` meets its contract: each call by what it ensures. Assumes nothing.
-use Rattle.voice_bell.specs.Bell.{partialOf}
+use Rattle.voice_bell.specs.Bell.{bellPartial}
 use borrow.Author.Needs.{needs}
 use Rattle.voice_bell.proofs.partial.Statement.{statement}
 use Rattle.voice_bell.proofs.partial.Tie as tie
@@ -14,7 +14,7 @@ sin-requires : tie.Need-sin-requires
 sin-requires c κs = search needs
 
 returns : tie.Need-returns
-unfolding partialOf
+unfolding bellPartial
 returns c = rw (c .sin .ensures, c .before .exp .ensures, c .before .before .max-f32 .ensures)
 
 pub partial-spec : {M : Type 1} → statement M

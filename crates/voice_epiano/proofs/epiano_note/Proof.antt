@@ -30,7 +30,9 @@ loop-holds : tie.Need-loop-holds Inv-loop μ-loop
 loop-holds c = filled-none
 
 at-requires-2 : tie.Need-at-requires-2 Inv-loop μ-loop
-at-requires-2 c κs = reaches-less (c .before .before .before .before .before .before .before .args .pitch) _ _ _ (c .before .before .before .before .before .before .before .pre .0) (omega (arith, filled-length (c .before .loop .inv)))
+at-requires-2 c κs =
+    let start = c .before .before .before .before .before .before .before in
+    reaches-less (start .args .pitch) _ _ _ (start .pre .0) (omega (arith, filled-length (c .before .loop .inv)))
 
 epiano-at-requires : tie.Need-epiano-at-requires Inv-loop μ-loop
 epiano-at-requires c κs = record { most = omega (arith, filled-length (c .before .before .loop .inv), c .before .before .before .before .before .before .before .before .pre .1 .most) }
@@ -57,7 +59,9 @@ same-length c = filled-length (c .before .loop .inv)
 
 returns-2 : tie.Need-returns-2 Inv-loop μ-loop
 unfolding epianoFrames
-returns-2 c = rw (← c .before .before .before .at .ensures, ← c .before .before .epiano-decay .ensures) (filled-frames (c .before .loop .inv) (omega (arith, filled-length (c .before .loop .inv))) (omega arith))
+returns-2 c =
+    let inv = c .before .loop .inv in
+    rw (← c .before .before .before .at .ensures, ← c .before .before .epiano-decay .ensures) (filled-frames inv (omega (arith, filled-length inv)) (omega arith))
 
 pub epiano-note-spec : {M : Type 1} → statement M
 epiano-note-spec =

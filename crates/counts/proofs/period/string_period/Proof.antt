@@ -19,7 +19,10 @@ high : (k : ℕ) → 2 ≤ k → k ≡ max k 2
 high k h = omega arith
 
 -- the period before the lower bound
-rounded : (c : tie.After-f32-to-usize) → c .f32-to-usize .result ≡ toUnsigned 64 (roundOf (f32 (c .before .before .before .before .args .rate) ⊘ clampOf (c .before .before .before .before .args .first) c20 (f32 (c .before .before .before .before .args .rate) ⊘ c2)))
+rounded :
+    (c : tie.After-f32-to-usize) →
+    let a = c .before .before .before .before .args in
+    c .f32-to-usize .result ≡ toUnsigned 64 (roundOf (f32 (a .rate) ⊘ clampOf (a .first) c20 (f32 (a .rate) ⊘ c2)))
 rounded c =
     rw (
       c .f32-to-usize .ensures,

@@ -18,7 +18,14 @@ bi-requires-2 c κs = search needs
 
 returns : tie.Need-returns
 unfolding humanizeDraws
-returns c = rw (c .bi2 .ensures .0, c .before .before .bi .ensures .0, c .before .before .bi .ensures .1, c .before .before .before .new .ensures, c .before .before .before .before .humanize-seed .ensures)
+returns c =
+    rw (
+      c .bi2 .ensures .0,
+      c .before .before .bi .ensures .0,
+      c .before .before .bi .ensures .1,
+      c .before .before .before .new .ensures,
+      c .before .before .before .before .humanize-seed .ensures,
+    )
 
 pub humanize-draws-spec : {M : Type 1} → statement M
 humanize-draws-spec =

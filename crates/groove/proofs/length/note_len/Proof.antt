@@ -19,8 +19,10 @@ high : (k : ℕ) → 1 ≤ k → k ≡ max k 1
 high k h = omega arith
 
 -- the frames before the lower bound
-frames : (c : tie.After-f32-to-usize)
-    → c .f32-to-usize .result ≡ toUnsigned 64 (minOf (f32 (c .before .before .before .before .args .len) ⊗ c .before .before .before .before .args .step-dur) (f32 (c .before .before .before .before .args .n)))
+frames :
+    (c : tie.After-f32-to-usize) →
+    let a = c .before .before .before .before .args in
+    c .f32-to-usize .result ≡ toUnsigned 64 (minOf (f32 (a .len) ⊗ a .step-dur) (f32 (a .n)))
 frames c = rw (c .f32-to-usize .ensures, c .before .min-f32 .ensures, c .before .before .before .nearest-u32-to-f32 .ensures)
 
 nearest-u32-to-f32-requires : tie.Need-nearest-u32-to-f32-requires

@@ -26,7 +26,15 @@ returns : tie.Need-returns
 unfolding grooveOf
 returns c =
     let human = c .before .before .before .before .before .humanized .ensures in
-    rw (c .clamp-f32 .ensures, c .before .f32-to-usize .ensures, c .before .before .max-f32 .ensures, c .before .before .before .before .nearest-u32-to-f32 .ensures, human .0, human .1, c .before .before .before .before .before .before .swing-delay .ensures)
+    rw (
+      c .clamp-f32 .ensures,
+      c .before .f32-to-usize .ensures,
+      c .before .before .max-f32 .ensures,
+      c .before .before .before .before .nearest-u32-to-f32 .ensures,
+      human .0,
+      human .1,
+      c .before .before .before .before .before .before .swing-delay .ensures,
+    )
 
 pub groove-note-spec : {M : Type 1} → statement M
 groove-note-spec =

@@ -24,7 +24,15 @@ max-f32-requires-3 c κs = search needs
 
 returns : tie.Need-returns
 unfolding blowOf
-returns c = rw (c .max-f323 .ensures, c .before .clamp-f323 .ensures, c .before .before .clamp-f322 .ensures, c .before .before .before .before .clamp-f32 .ensures, c .before .before .before .before .before .max-f322 .ensures, c .before .before .before .before .before .before .max-f32 .ensures)
+returns c =
+    rw (
+      c .max-f323 .ensures,
+      c .before .clamp-f323 .ensures,
+      c .before .before .clamp-f322 .ensures,
+      c .before .before .before .before .clamp-f32 .ensures,
+      c .before .before .before .before .before .max-f322 .ensures,
+      c .before .before .before .before .before .before .max-f32 .ensures,
+    )
 
 pub hammer-blow-spec : {M : Type 1} → statement M
 hammer-blow-spec =

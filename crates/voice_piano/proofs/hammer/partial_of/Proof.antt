@@ -35,7 +35,16 @@ fract-f32-requires-2 c κs = search needs
 
 returns : tie.Need-returns
 unfolding partialOf
-returns c = rw (c .fract-f322 .ensures, c .before .fract-f32 .ensures, c .before .before .one-pole .ensures, c .before .before .before .max-f32 .ensures, c .before .before .before .before .before .powf .ensures, c .before .before .before .before .before .before .before .abs-f32 .ensures, c .before .before .before .before .before .before .before .before .sin .ensures)
+returns c =
+    rw (
+      c .fract-f322 .ensures,
+      c .before .fract-f32 .ensures,
+      c .before .before .one-pole .ensures,
+      c .before .before .before .max-f32 .ensures,
+      c .before .before .before .before .before .powf .ensures,
+      c .before .before .before .before .before .before .before .abs-f32 .ensures,
+      c .before .before .before .before .before .before .before .before .sin .ensures,
+    )
 
 pub partial-of-spec : {M : Type 1} → statement M
 partial-of-spec =

@@ -23,7 +23,9 @@ ratio-of-requires : tie.Need-ratio-of-requires Inv-loop μ-loop
 ratio-of-requires c κs = omega arith
 
 returns : tie.Need-returns Inv-loop μ-loop
-returns c = ((c .before .before .before .before .loop .inv) .within, built-here (c .before .before .before .before .loop .inv) (omega arith) (rw (c .before .before .ratio-of .ensures) at (c .if1 .taken)))
+returns c =
+    let inv = c .before .before .before .before .loop .inv in
+    (inv .within, built-here inv (omega arith) (rw (c .before .before .ratio-of .ensures) at (c .if1 .taken)))
 
 add-partial-of : tie.Need-add-partial-of Inv-loop μ-loop
 add-partial-of c = search needs
@@ -44,7 +46,9 @@ loop-less : tie.Need-loop-less Inv-loop μ-loop
 loop-less c = omega arith
 
 loop-again : tie.Need-loop-again Inv-loop μ-loop
-loop-again c = built-more (c .before .before .before .before .before .loop .inv) (omega arith) (rw (c .before .before .before .ratio-of .ensures) at (c .before .if1 .left)) (rw (c .before .before .before .ratio-of .ensures) at (c .partial-of .ensures))
+loop-again c =
+    let ratio = c .before .before .before .ratio-of .ensures in
+    built-more (c .before .before .before .before .before .loop .inv) (omega arith) (rw ratio at (c .before .if1 .left)) (rw ratio at (c .partial-of .ensures))
 
 returns-2 : tie.Need-returns-2 Inv-loop μ-loop
 returns-2 c = ((c .before .loop .inv) .within, built-all (c .before .loop .inv) (omega arith))

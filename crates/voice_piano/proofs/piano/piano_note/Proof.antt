@@ -1,5 +1,4 @@
 -- `voice_piano::piano::piano_note` meets its contract: each call by what it ensures. Assumes nothing.
-use Prim.Native.Nat.{_^_, _<_}
 use mathlib.Core.Path.{ap, _∙_}
 use native.Mathlib.Omega.{arith}
 use borrow.Author.Needs.{needs}
@@ -44,10 +43,17 @@ returns-2 c =
     let start = c .before .before .before .before .before .before .before .before .before .before .before .before .before .before in
     let made = c .before .before .sound-piano .ensures in
     let srf = c .before .before .before .before .before .before .before .before .before .before .nearest-u32-to-f32 .ensures in
-    let fits : start .args .rng .0 < 2 ^ 64 = omega (arith, start .good .1 .1 .1 .1 .1 .0) in (
-      made .0 ∙ rw (c .before .before .before .before .string-pair .ensures, c .before .before .before .before .before .loudness .ensures, c .before .before .before .before .before .before .before .piano-partials .ensures .1, c .before .before .before .before .before .before .before .before .hammer-blow .ensures, c .before .before .before .before .before .before .before .before .before .at .ensures, srf),
-      (rw srf at (made .1)) ∙ ap (stateAfter (start .args .rng .0)) (thump-count (start .args .rate) _ (start .pre .0) (start .pre .1 .1 .most)),
-    )
+    let partials = c .before .before .before .before .before .before .before .piano-partials .ensures .1 in
+    let frames =
+    rw (
+      c .before .before .before .before .string-pair .ensures,
+      c .before .before .before .before .before .loudness .ensures,
+      partials,
+      c .before .before .before .before .before .before .before .before .hammer-blow .ensures,
+      c .before .before .before .before .before .before .before .before .before .at .ensures,
+      srf,
+    ) at (made .0) in
+    (frames, (rw srf at (made .1)) ∙ ap (stateAfter (start .args .rng .0)) (thump-count (start .args .rate) _ (start .pre .0) (start .pre .1 .1 .most)))
 
 pub piano-note-spec : {M : Type 1} → statement M
 piano-note-spec =

@@ -25,7 +25,9 @@ at-requires : tie.Need-at-requires Inv-loop μ-loop
 at-requires c κs = reaches-less (c .before .before .before .before .args .pitch) _ _ _ (c .before .before .before .before .pre .0) (omega (arith, filled-length (c .before .loop .inv)))
 
 piano-at-requires : tie.Need-piano-at-requires Inv-loop μ-loop
-piano-at-requires c κs = (record { most = omega (arith, filled-length (c .before .before .loop .inv), c .before .before .before .before .before .pre .1 .0 .most) }, c .before .before .before .before .before .pre .1 .1)
+piano-at-requires c κs =
+    let given = c .before .before .before .before .before .pre in
+    (record { most = omega (arith, filled-length (c .before .before .loop .inv), given .1 .0 .most) }, given .1 .1)
 
 mul-out : tie.Need-mul-out Inv-loop μ-loop
 mul-out c = search needs

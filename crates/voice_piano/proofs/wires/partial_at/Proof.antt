@@ -19,7 +19,9 @@ wrap-requires-2 c κs = search needs
 
 returns : tie.Need-returns
 unfolding added moved
-returns c = (rw (c .before .before .before .before .before .before .before .sin2 .ensures, c .before .before .before .before .before .before .before .before .before .sin .ensures), rw (c .wrap2 .ensures, c .before .before .before .wrap .ensures))
+returns c =
+    let first = c .before .before .before .before .before .before .before .before .before .sin .ensures in
+    (rw (c .before .before .before .before .before .before .before .sin2 .ensures, first), rw (c .wrap2 .ensures, c .before .before .before .wrap .ensures))
 
 pub partial-at-spec : {M : Type 1} → statement M
 partial-at-spec =

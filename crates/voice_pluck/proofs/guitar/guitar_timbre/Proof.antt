@@ -24,7 +24,15 @@ resonance-requires-3 c κs = search needs
 
 returns : tie.Need-returns
 unfolding timbreOf
-returns c = rw (c .resonance3 .ensures, c .before .resonance2 .ensures, c .before .before .resonance .ensures, c .before .before .before .exp .ensures, c .before .before .before .before .max-f322 .ensures, c .before .before .before .before .before .max-f32 .ensures)
+returns c =
+    rw (
+      c .resonance3 .ensures,
+      c .before .resonance2 .ensures,
+      c .before .before .resonance .ensures,
+      c .before .before .before .exp .ensures,
+      c .before .before .before .before .max-f322 .ensures,
+      c .before .before .before .before .before .max-f32 .ensures,
+    )
 
 pub guitar-timbre-spec : {M : Type 1} → statement M
 guitar-timbre-spec =

@@ -15,7 +15,12 @@ ring-all-requires c κs = search needs
 
 returns : tie.Need-returns
 unfolding plucked
-returns c = rw (c .before .before .before .before .before .before .before .before .before .before .before .before .before .before .before .ring-all .ensures, c .before .before .before .before .before .before .before .before .before .before .before .before .before .before .before .before .click .ensures, c .before .before .before .before .before .before .before .before .before .before .before .before .before .before .before .before .before .frame-time .ensures)
+returns c =
+    rw (
+      c .before .before .before .before .before .before .before .before .before .before .before .before .before .before .before .ring-all .ensures,
+      c .before .before .before .before .before .before .before .before .before .before .before .before .before .before .before .before .click .ensures,
+      c .before .before .before .before .before .before .before .before .before .before .before .before .before .before .before .before .before .frame-time .ensures,
+    )
 
 pub pluck-at-spec : {M : Type 1} → statement M
 pluck-at-spec = tie.close (tie.spec frame-time-requires click-requires ring-all-requires returns)

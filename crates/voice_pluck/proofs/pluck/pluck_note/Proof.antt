@@ -23,9 +23,11 @@ sound-string-requires : tie.Need-sound-string-requires
 sound-string-requires c κs =
     let start = c .before .before .before .before .before .before .before .before in
     let is = sym (c .before .before .before .string-period .ensures) in
-    let rate = start .args .rate in (
-      subst (λ (n : ℕ). 0 < n) is (le-trans (lit≤ tt) (period-least rate (c .before .before .before .before .at .result))),
-      (subst (λ (n : ℕ). n ≤ length (start .args .string .now)) is (le-trans (period-fits rate (start .pre .0) (c .before .before .before .before .at .result)) (start .pre .1 .1 .1 .1)), start .pre .1 .1 .1 .0),
+    let rate = start .args .rate in
+    let first = c .before .before .before .before .at .result in
+    let fits = le-trans (period-fits rate (start .pre .0) first) (start .pre .1 .1 .1 .1) in (
+      subst (λ (n : ℕ). 0 < n) is (le-trans (lit≤ tt) (period-least rate first)),
+      (subst (λ (n : ℕ). n ≤ length (start .args .string .now)) is fits, start .pre .1 .1 .1 .0),
     )
 
 same-length : tie.Need-same-length

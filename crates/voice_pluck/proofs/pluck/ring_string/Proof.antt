@@ -40,10 +40,15 @@ slice-read-pluck-at-2 : tie.Need-slice-read-pluck-at-2 Inv-loop μ-loop
 slice-read-pluck-at-2 c = c .before .before .turn .ensures .1
 
 pluck-at-requires : tie.Need-pluck-at-requires Inv-loop μ-loop
-pluck-at-requires c κs = record { most = omega (arith, filled-length (c .before .before .before .before .loop .inv .0), c .before .before .before .before .before .before .before .before .pre .1 .most) }
+pluck-at-requires c κs =
+    let inv = c .before .before .before .before .loop .inv in
+    record { most = omega (arith, filled-length (inv .0), c .before .before .before .before .before .before .before .before .pre .1 .most) }
 
 mul-string : tie.Need-mul-string Inv-loop μ-loop
-mul-string c = scaled-fits (c .before .before .before .before .before .loop .spos) (length (c .before .before .before .before .before .before .before .before .before .args .string .now)) 4 (c .before .before .before .before .before .loop .inv .2) (omega (arith, c .before .before .before .before .before .before .before .before .before .good .1 .1 .1 .0))
+mul-string c =
+    let start = c .before .before .before .before .before .before .before .before .before in
+    let turn = c .before .before .before .before .before .loop in
+    scaled-fits (turn .spos) (length (start .args .string .now)) 4 (turn .inv .2) (omega (arith, start .good .1 .1 .1 .0))
 
 slice-write-string : tie.Need-slice-write-string Inv-loop μ-loop
 slice-write-string c = omega arith
@@ -62,11 +67,14 @@ loop-less c = omega (arith, filled-length (c .before .before .before .before .be
 
 loop-again : tie.Need-loop-again Inv-loop μ-loop
 unfolding ringAt
-loop-again c = (
-  filled-more-parts (c .before .before .before .before .before .before .loop .inv .0) (omega (arith, filled-length (c .before .before .before .before .before .before .loop .inv .0))) (rw (c .before .pluck-at .ensures, c .before .before .before .before .turn .ensures .0)) (rw (c .before .pluck-at .ensures, c .before .before .before .before .turn .ensures .0)),
-  rw length-set (c .before .before .before .before .before .before .loop .inv .1),
-  omega arith,
-)
+loop-again c =
+    let inv = c .before .before .before .before .before .before .loop .inv in
+    let frame = c .before .pluck-at .ensures in
+    let place = c .before .before .before .before .turn .ensures .0 in (
+      filled-more-parts (inv .0) (omega (arith, filled-length (inv .0))) (rw (frame, place)) (rw (frame, place)),
+      rw length-set (inv .1),
+      omega arith,
+    )
 
 same-length : tie.Need-same-length Inv-loop μ-loop
 same-length c = c .before .loop .inv .1

@@ -24,7 +24,15 @@ wrap-requires-2 c κs = search needs
 
 returns : tie.Need-returns
 unfolding fmAt
-returns c = rw (c .wrap2 .ensures, c .before .before .before .wrap .ensures, c .before .before .before .before .before .sin2 .ensures, c .before .before .before .before .before .before .before .sin .ensures, c .before .before .before .before .before .before .before .before .before .fm-index-at .ensures, c .before .before .before .before .before .before .before .before .before .before .phase-step .ensures)
+returns c =
+    rw (
+      c .wrap2 .ensures,
+      c .before .before .before .wrap .ensures,
+      c .before .before .before .before .before .sin2 .ensures,
+      c .before .before .before .before .before .before .before .sin .ensures,
+      c .before .before .before .before .before .before .before .before .before .fm-index-at .ensures,
+      c .before .before .before .before .before .before .before .before .before .before .phase-step .ensures,
+    )
 
 pub fm-at-spec : {M : Type 1} → statement M
 fm-at-spec =

@@ -23,7 +23,9 @@ at-requires : tie.Need-at-requires Inv-loop μ-loop
 at-requires c κs = reaches-less (c .before .before .before .before .before .args .pitch) _ _ _ (c .before .before .before .before .before .pre .0) (omega (arith, filled-length (c .before .loop .inv)))
 
 at-requires-2 : tie.Need-at-requires-2 Inv-loop μ-loop
-at-requires-2 c κs = reaches-less (c .before .before .before .before .before .before .args .duty) _ _ _ (c .before .before .before .before .before .before .pre .1) (omega (arith, filled-length (c .before .before .loop .inv)))
+at-requires-2 c κs =
+    let start = c .before .before .before .before .before .before in
+    reaches-less (start .args .duty) _ _ _ (start .pre .1) (omega (arith, filled-length (c .before .before .loop .inv)))
 
 square-at-requires : tie.Need-square-at-requires Inv-loop μ-loop
 square-at-requires c κs = tt
