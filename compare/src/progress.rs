@@ -27,6 +27,15 @@ pub struct Progress {
 impl Progress {
     /// Of `total` cases, none is done.
     pub fn new(name: &str, total: u64) -> Progress {
+        Progress::seen(name, total, io::stderr().is_terminal())
+    }
+
+    /// One that is never shown.
+    pub fn unseen() -> Progress {
+        Progress::seen("", 0, false)
+    }
+
+    fn seen(name: &str, total: u64, is_seen: bool) -> Progress {
         let now = Instant::now();
         Progress {
             name: name.to_string(),
@@ -34,15 +43,7 @@ impl Progress {
             done: AtomicU64::new(0),
             begun: now,
             shown: Mutex::new(now),
-            is_seen: io::stderr().is_terminal(),
-        }
-    }
-
-    /// One that is never shown.
-    pub fn unseen() -> Progress {
-        Progress {
-            is_seen: false,
-            ..Progress::new("", 0)
+            is_seen,
         }
     }
 
