@@ -125,7 +125,7 @@ static float peak_of(const struct played *played)
 
 static int trouble(const char *what, const char *why)
 {
-    fprintf(stderr, "host: %s: %s\n", what, why);
+    fprintf(stderr, "host: %s: %s; usage: host [SCORE [FRAMES]]\n", what, why);
     return 2;
 }
 
@@ -158,7 +158,7 @@ int main(int count, char **words)
     const char *name = count > 1 ? words[1] : "standard input";
     FILE *file = count > 1 ? fopen(words[1], "rb") : stdin;
     if (count > 3)
-        return trouble("usage", "host [SCORE [FRAMES]]");
+        return trouble(words[3], "one file too many");
     if (file == NULL)
         return trouble(name, strerror(errno));
     size_t length = fread(score, 1, sizeof score, file);

@@ -143,9 +143,9 @@ def listing(path):
     try:
         run = subprocess.run([command, path], stdout=subprocess.PIPE, text=True)
     except OSError as error:
-        raise Wrong(f"{command} cannot be started: {error.strerror}") from error
+        raise Wrong(f"{command} cannot be started: {error.strerror}; set PLAY to the path of play") from error
     if run.returncode:
-        raise Wrong(f"{path} was not played, status {run.returncode}")
+        raise Wrong(f"{path} was not played, status {run.returncode}; ./play {path} says why")
     rows = [line.split("\t") for line in run.stdout.splitlines()]
     return int(rows[0][2]), [single.value(row[2]) for row in rows[1:]]
 
