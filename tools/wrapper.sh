@@ -31,7 +31,7 @@ stop() {
     if [ -n "$group" ]; then kill -TERM -- "-$group" 2>/dev/null || true; fi
     if [ -n "$child" ]; then kill -TERM "$child" 2>/dev/null || true; fi
     if [ -t 2 ]; then echo >&2; fi
-    say "interrupted; start again to go on where it stopped"
+    say "interrupted${group:+; what is proved by now is kept}"
     exit "$1"
 }
 trap clean EXIT
