@@ -1,6 +1,6 @@
 -- What a call comes to, by 01's numbers, and what it leaves.
 use Prim.Native.Nat.{ℕ}
-use mathlib.Core.List.{List}
+use mathlib.Core.List.{List, []}
 use lib.Ieee.{Float}
 use Rattle.outcome.specs.declared.answer.Refusal.{Refusal}
 use Rattle.outcome.specs.declared.answer.Refusal.the-variants.{Rate, Frames, Tempo, StepsPerBeat, Groove, Knobs, Words, Kind, Steps, Size, Lane, Reach, NoPitch, Lengths, NoteBuffer, StringBuffer, Draws}
@@ -43,6 +43,16 @@ unless (Refuse why) r = refused (numberOf why)
 abbrev pub seen : Outcome → List Float → Result
 seen (Played draws) out = accepted draws out
 seen (Refused r) out = refused (numberOf r)
+
+-- the draws that a call reports: a refused one 0
+abbrev pub reported : Result → ℕ
+reported (refused number) = 0
+reported (accepted draws frames) = draws
+
+-- the frames of an accepted call
+abbrev pub framesIn : Result → List Float
+framesIn (refused number) = []
+framesIn (accepted draws frames) = frames
 
 -- "A refusal .. changes nothing"
 abbrev pub outAfter : List Float → Result → List Float
