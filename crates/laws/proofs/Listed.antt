@@ -1,5 +1,5 @@
 -- The list of a function's values: its length, what stands in it, and one value more at its end. Assumes nothing.
-use Prim.Native.Nat.{ℕ, zero, suc, _+_, _<_}
+use Prim.Native.Nat.{ℕ, zero, suc, _+_, _≤_, _<_}
 use mathlib.Core.Path.{_≡_, refl, ap, _∙_}
 use mathlib.Core.List.{List, [], _∷_, _++_, map}
 use native.Mathlib.Omega.{arith}
@@ -39,3 +39,12 @@ pub from-map : {Y Z : Type 0} (g : Y → Z) (f : ℕ → Y) (m k : ℕ) → map 
 unfolding listedFrom
 from-map g f zero k = refl
 from-map g f (suc m) k = ap (λ l. g (f k) ∷ l) (from-map g f m (suc k))
+
+-- values that agree
+from-same : {Y : Type 0} (f g : ℕ → Y) (m k : ℕ) → ((i : ℕ) → k ≤ i → i < k + m → f i ≡ g i) → listedFrom f m k ≡ listedFrom g m k
+unfolding listedFrom
+from-same f g zero k h = refl
+from-same f g (suc m) k h = λ j. h k (omega arith) (omega arith) j ∷ from-same f g m (suc k) (λ i low high. h i (omega arith) (omega arith)) j
+
+pub listed-same : {Y : Type 0} (f g : ℕ → Y) (m : ℕ) → ((i : ℕ) → i < m → f i ≡ g i) → listed f m ≡ listed g m
+listed-same f g m h = from-same f g m 0 (λ i low high. h i (omega arith))

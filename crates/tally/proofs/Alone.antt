@@ -53,7 +53,7 @@ module _ (s : Score) (fit : Fit s) (m : SeqNote) (fine : NoteFine s m) (heard : 
   each : (i : ℕ) → i < frames → sizedOf (pitch s m i) ≡ true
   each i h = pitch-sized (m .pitch) (s .lane) frames i (fine .pitch) (fit .lane) (sounded-reached s m fine) h
 
-  call-fine : noteCallRefusal (aloneHanded s m) ≡ Fine
+  pub call-fine : noteCallRefusal (aloneHanded s m) ≡ Fine
   unfolding noteCallRefusal
   call-fine =
       let ps = listed-length (pitch s m) frames in
