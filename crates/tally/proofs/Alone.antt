@@ -60,10 +60,28 @@ module _ (s : Score) (fit : Fit s) (m : SeqNote) (fine : NoteFine s m) (heard : 
       let ds = listed-length (λ _. s .seq .duty) frames in
       let full : length pitches ≡ 0 → ⊥ = λ e. omega (arith, e, ps, some) in
       let few : frames ≤ 16777216 = omega (arith, all-within s m heard, fit .frames .most) in
-      all-false (noteCallTests (aloneHanded s m))
-      (inside-is _ _ _ (fit .rate .least) (fit .rate .most), (le-ltb 16777216 frames few, (ap not (fit .knobs), (le-ltb (s .string) 9600 (fit .stringed),
-      (ap not (fine .gain), (ap not (all-listed (pitch s m) frames each), (ap not (all-listed (λ _. s .seq .duty) frames (λ i h. fit .duty)),
-      (ne-eqb _ _ full, (ap not (eq-eqb _ _ (ds ∙ sym ps)), (ap not (eq-eqb _ _ (sym ps)), tt))))))))))
+      all-false (noteCallTests (aloneHanded s m)) (
+        inside-is _ _ _ (fit .rate .least) (fit .rate .most),
+        (
+          le-ltb 16777216 frames few,
+          (
+            ap not (fit .knobs),
+            (
+              le-ltb (s .string) 9600 (fit .stringed),
+              (
+                ap not (fine .gain),
+                (
+                  ap not (all-listed (pitch s m) frames each),
+                  (
+                    ap not (all-listed (λ _. s .seq .duty) frames (λ i h. fit .duty)),
+                    (ne-eqb _ _ full, (ap not (eq-eqb _ _ (ds ∙ sym ps)), (ap not (eq-eqb _ _ (sym ps)), tt))),
+                  ),
+                ),
+              ),
+            ),
+          ),
+        ),
+      )
 
   drawn : drawsOf (waveIn s) (rateIn s) (getD pitches 0 nan) frames ≡ drawsIn s m
   unfolding drawsIn

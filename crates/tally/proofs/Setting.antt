@@ -208,9 +208,9 @@ module _ (s s′ : Score) (r : Reset s s′) where
   call-verdict =
       let voices = r .sized .voice ∙ sym (r .sized′ .voice) in
       let middle : orElse (firstOf (numberTests (s .seq .timing) (s .n))) (orElse (firstOf (voiceTests (s .seq))) (firstOf (lentTests s ++ listTests s)))
-          ≡ orElse (firstOf (numberTests (s′ .seq .timing) (s′ .n))) (orElse (firstOf (voiceTests (s′ .seq))) (firstOf (lentTests s′ ++ listTests s′)))
-          = λ j. orElse (firstOf (numberTests (r .timing j) (r .frames j))) (orElse (voices j)
-          (firstOf ((ltb (r .room j) (r .frames j) ⇒ NoteBuffer) ∷ (ltb (r .string j) 9600 ⇒ StringBuffer) ∷ (not (eqb (r .words j % 5) 0) ⇒ Words) ∷ (not (allSized (r .lane j)) ⇒ Lane) ∷ []))) in
+      ≡ orElse (firstOf (numberTests (s′ .seq .timing) (s′ .n))) (orElse (firstOf (voiceTests (s′ .seq))) (firstOf (lentTests s′ ++ listTests s′)))
+      = λ j. orElse (firstOf (numberTests (r .timing j) (r .frames j))) (orElse (voices j)
+      (firstOf ((ltb (r .room j) (r .frames j) ⇒ NoteBuffer) ∷ (ltb (r .string j) 9600 ⇒ StringBuffer) ∷ (not (eqb (r .words j % 5) 0) ⇒ Words) ∷ (not (allSized (r .lane j)) ⇒ Lane) ∷ []))) in
       parts s ∙ middle ∙ sym (parts s′)
 
   -- THE THEOREM: the same refusal, or none in both
@@ -265,7 +265,7 @@ module _ (seed : ℕ) where
       let there = next-draw seed d s′ v (sym same) ∙ ap (λ (x : ℕ). d + x) (reports-same v (scoreDraws s′) (scoreDraws s) [] [] (sym drawn)) in
       let later = both n ss ss′ rest in
       let head = silent-same v (scoreDraws s) (scoreDraws s′) (allTaken seed s d .frames) (allTaken seed s′ d .frames) drawn
-          ∙ ap (λ (w : Verdict). silent (unless w (accepted (scoreDraws s′) (allTaken seed s′ d .frames)))) same in
+      ∙ ap (λ (w : Verdict). silent (unless w (accepted (scoreDraws s′) (allTaken seed s′ d .frames)))) same in
       let tails = ap (λ (x : ℕ). map silent (tally seed x ss .results)) here ∙ later .answers ∙ ap (λ (x : ℕ). map silent (tally seed x ss′ .results)) (sym there) in
       record {
         calls = unmoved-by d s s′ r v refl (later .calls);

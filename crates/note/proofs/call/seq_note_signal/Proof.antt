@@ -14,8 +14,11 @@ note-call-verdict-requires c κs = search needs
 enum-known-verdict : tie.Need-enum-known-verdict
 enum-known-verdict c = search needs
 
+refused-requires : tie.Need-refused-requires
+refused-requires c κs = search needs
+
 returns : tie.Need-returns
-returns c = refused-note _ (sym (c .before .verdict .given .1) ∙ c .before .before .before .note-call-verdict .ensures) refl refl refl
+returns c = refused-note _ (sym (c .before .before .verdict .given .1) ∙ c .before .before .before .before .note-call-verdict .ensures) (c .refused .ensures) refl refl
 
 enum-told : tie.Need-enum-told
 enum-told c = search needs
@@ -74,6 +77,7 @@ seq-note-signal-spec =
     (tie.spec
     note-call-verdict-requires
     enum-known-verdict
+    refused-requires
     returns
     enum-told
     shared-slice-read-draw-count
