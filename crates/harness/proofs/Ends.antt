@@ -3,10 +3,9 @@ use mathlib.Core.Path.{_≡_, refl, ap, _∙_}
 use mathlib.Core.List.{List, []}
 use lib.ListN.{drop}
 use lib.Ieee.{Float}
-use Rattle.outcome.specs.Answer.{Result, seen, outAfter, free}
+use Rattle.outcome.specs.Answer.{Result, seen, reported, outAfter, free}
 use Rattle.outcome.specs.declared.answer.Outcome.{Outcome}
 use Rattle.outcome.specs.declared.answer.Outcome.the-variants.{Played, Refused}
-use Rattle.tally.specs.Tally.{reported}
 use Rattle.harness.specs.Called.{none, made, numberIn, stateAfterResult, Places, Holds}
 
 module _ (p : Places) where
