@@ -6,7 +6,7 @@ use mathlib.Core.List.{List, [], _∷_, _++_}
 use mathlib.Core.Bool.{Bool, true, false, cond}
 use native.Mathlib.Omega.{arith}
 use native.Mathlib.Numerals.{add-one}
-use borrow.Author.Tests.{ltb-true, ltb-false}
+use borrow.Author.Tests.{ltb-true, ltb-false, le-ltb}
 use lib.Dec.{ltb}
 use Rattle.laws.specs.Listed.{listedFrom, listed}
 use Rattle.outcome.specs.First.{Test, firstOf, orElse, firstRefusal, firstAfter, outside}
@@ -53,6 +53,9 @@ inside-most x low high e = ltb-false high x (by (ltb x low) (ltb high x) e)
     by true b e = cc
     by false b e = e
 
+pub inside-is : (x low high : ℕ) → low ≤ x → x ≤ high → outside x low high ≡ false
+inside-is x low high l h = rw (le-ltb x low l) (le-ltb high x h)
+
 -- ---- test after test
 or-or : (v : Verdict) (b : Bool) (r : Refusal) (rest : Verdict) → orElse (orElse v (cond b (Refuse r) Fine)) rest ≡ orElse v (cond b (Refuse r) rest)
 or-or Fine true r rest = refl
@@ -73,7 +76,7 @@ cond-or : (b : Bool) (r : Refusal) (v next : Verdict) → cond b (Refuse r) (orE
 cond-or true r v next = refl
 cond-or false r v next = refl
 
-first-append : (ts us : List Test) → firstOf (ts ++ us) ≡ orElse (firstOf ts) (firstOf us)
+pub first-append : (ts us : List Test) → firstOf (ts ++ us) ≡ orElse (firstOf ts) (firstOf us)
 unfolding firstOf
 first-append [] us = refl
 first-append (t ∷ ts) us = ap (cond (t .holds) (Refuse (t .refusal))) (first-append ts us) ∙ cond-or (t .holds) (t .refusal) (firstOf ts) (firstOf us)

@@ -2,5 +2,3 @@ mod Values
 pub mod Alone
 mod Taking
 pub mod AllCalls
-pub mod Setting
-pub mod Sum

@@ -32,7 +32,9 @@ string-pair-requires : tie.Need-string-pair-requires
 string-pair-requires c κs = search needs
 
 sound-piano-requires : tie.Need-sound-piano-requires
-sound-piano-requires c κs = search needs
+sound-piano-requires c κs =
+    let given = c .before .before .before .before .before .before .before .before .before .before .before .pre in
+    (given .1 .0, (given .1 .1, c .before .before .before .before .piano-partials .ensures .0))
 
 same-length : tie.Need-same-length
 same-length c = search needs
