@@ -109,8 +109,10 @@ returns c =
     let string = sym (b13 .before .string-buffer .ensures) in
     let n = length-take-le (a .n) l fits in
     let opened = b13 .«open» .ensures in
-    let call = λ j. record { seq = a .seq; notes = a .notes .now; lane = []; n = n j; room = room j; string = string j } in
-    printed-as (played-by (a .seq) (a .notes .now) (a .n) (a .seed) (a .draw) _ _ opened (v .ensures) call) printed
+    printed-as
+    (played-by (a .seq) (a .notes .now) (a .n) (a .seed) (a .draw) _ _ opened (v .ensures)
+    (λ j. record { seq = a .seq; notes = a .notes .now; lane = []; n = n j; room = room j; string = string j }))
+    printed
 
 pub play-score-spec : {M : Type 1} → statement M
 play-score-spec =
