@@ -2,16 +2,14 @@
 use Prim.Native.Nat.{ℕ}
 use mathlib.Core.Path.{_≡_, refl, sym, ap, _∙_}
 use mathlib.Core.List.{[]}
-use lib.ListN.{length}
 use Rattle.rng.specs.declared.Rng.{Rng}
 use Rattle.dsl.specs.declared.knobs.SeqVoice.{SeqVoice}
-use Rattle.outcome.specs.Answer.{Result, refused, accepted, seen}
-use Rattle.tally.specs.Tally.{reported}
+use Rattle.outcome.specs.Answer.{Result, refused, accepted, seen, reported}
 use Rattle.note.specs.NoteCall.{NoteEvent, Voiced, noteResultOf, noteResultIn, rngAfter}
 use Rattle.note.specs.declared.answer.NoteAnswer.{NoteAnswer}
 use Rattle.harness_knobs.specs.Knobs.{voiceAt}
 use Rattle.harness.specs.Called.{Called, none, made, numberIn, stateAfterResult, Places, Holds}
-use Rattle.harness.specs.Note.{NoteExport, NoteExported, calledWith, calledIn}
+use Rattle.harness.specs.Note.{NoteExport, NoteExported, handedWith, calledWith, calledIn}
 use Rattle.harness_knobs.specs.declared.VoiceAt.{VoiceAt}
 use Rattle.harness_knobs.specs.declared.VoiceAt.the-variants.{Voice, Nothing}
 use Rattle.harness.proofs.Ends.{Returned, made-holds}
@@ -51,7 +49,7 @@ module _ (e : NoteExport) where
     result = noteResultIn (callOf e v g a)
 
     called : calledIn e ≡ made result
-    called = ap (λ (x : VoiceAt). calledWith x e) (sym voice) ∙ ap (λ (s : ℕ). made (noteResultOf (e .rate) v (e .gain) (e .pitch) (e .duty) (length (p .out₀)) (length (p .string₀)) s)) (sym state)
+    called = ap (λ (x : VoiceAt). calledWith x e) (sym voice) ∙ ap (λ (s : ℕ). made (noteResultOf (handedWith v e) s)) (sym state)
 
     returned : Returned p result (a .outcome)
     returned = record { answer = call .answer; frames = call .frames; string = call .string }

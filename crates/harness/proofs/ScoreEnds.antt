@@ -6,14 +6,13 @@ use lib.ListN.{length, drop}
 use Rattle.rng.specs.declared.Rng.{Rng}
 use Rattle.dsl.specs.declared.knobs.Adsr.{Adsr}
 use Rattle.dsl.specs.declared.knobs.SeqVoice.{SeqVoice}
-use Rattle.outcome.specs.Answer.{Result, refused, accepted, seen}
-use Rattle.tally.specs.Tally.{reported}
+use Rattle.outcome.specs.Answer.{Result, refused, accepted, seen, reported}
 use Rattle.score_contract.specs.ScoreCall.{Event, Scored, resultOf, resultIn, sessionAfter}
 use Rattle.session.specs.declared.Session.{Session}
 use Rattle.session.specs.declared.Answer.{Answer}
 use Rattle.harness_knobs.specs.Knobs.{voiceAt, envAt}
 use Rattle.harness.specs.Called.{Called, none, made, numberIn, stateAfterResult, drawAfterResult, drawAfterCall, freeAfterCall, Places, Holds}
-use Rattle.harness.specs.Score.{ScoreExport, ScoreExported, seqWith, scoreWith, calledWith, calledIn}
+use Rattle.harness.specs.Score.{ScoreExport, ScoreExported, scoreWith, calledWith, calledIn}
 use Rattle.harness_knobs.specs.declared.VoiceAt.{VoiceAt}
 use Rattle.harness_knobs.specs.declared.VoiceAt.the-variants.{Voice}
 use Rattle.harness_knobs.specs.declared.VoiceAt.the-variants as voices
@@ -29,7 +28,7 @@ sessionOf e g = record { rng = g; draw = e .draw₀ }
 -- the score call that was made, with the voice v and the envelope m; a is its answer
 abbrev callOf : ScoreExport → SeqVoice → Adsr → Answer → Event
 callOf e v m a = record {
-  seq = seqWith v m e;
+  seq = scoreWith v m e .seq;
   notes = e .notes;
   lane = e .lane;
   out₀ = e .places .out₀;
@@ -76,7 +75,7 @@ module _ (e : ScoreExport) where
       result = resultIn (sessionOf e g) (callOf e v m a)
 
       called : calledIn e ≡ made result
-      called = voiced (Env m) env ∙ ap (λ (s : ℕ). made (resultOf (scoreWith v m e) (length (e .buffer₀)) (length (p .string₀)) s (e .draw₀))) (sym state)
+      called = voiced (Env m) env ∙ ap (λ (s : ℕ). made (resultOf (scoreWith v m e) s (e .draw₀))) (sym state)
 
       returned : Returned p result (a .outcome)
       returned = record { answer = call .answer; frames = call .frames; string = call .string }

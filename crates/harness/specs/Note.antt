@@ -3,6 +3,8 @@ use Prim.Native.Nat.{ℕ}
 use mathlib.Core.List.{List}
 use lib.ListN.{length}
 use lib.Ieee.{Float}
+use Rattle.dsl.specs.declared.knobs.SeqVoice.{SeqVoice}
+use Rattle.note_verdict.specs.NoteRefusals.{NoteHanded}
 use Rattle.note.specs.NoteCall.{noteResultOf}
 use Rattle.harness_knobs.specs.Knobs.{voiceAt}
 use Rattle.harness.specs.Called.{Called, none, made, Places, Holds}
@@ -19,10 +21,20 @@ pub record NoteExport : Type 0 where
   pub duty : List Float
   pub places : Places
 
+-- what the note call is handed with the voice v
+abbrev pub handedWith : SeqVoice → NoteExport → NoteHanded
+handedWith v e = record {
+  rate = e .rate;
+  voice = v;
+  gain = e .gain;
+  pitch = e .pitch;
+  duty = e .duty;
+  n = length (e .places .out₀);
+  string = length (e .places .string₀);
+}
+
 abbrev pub calledWith : VoiceAt → NoteExport → Called
-calledWith (Voice v) e =
-    let p = e .places in
-    made (noteResultOf (e .rate) v (e .gain) (e .pitch) (e .duty) (length (p .out₀)) (length (p .string₀)) (p .state₀))
+calledWith (Voice v) e = made (noteResultOf (handedWith v e) (e .places .state₀))
 calledWith Nothing e = none
 
 abbrev pub calledIn : NoteExport → Called

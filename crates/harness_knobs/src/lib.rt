@@ -2,7 +2,8 @@
 // the outside vectors have in place of a voice and an envelope.
 ghost use mathlib.Core.Path.{_≡_};
 ghost use lib.ListN.{length};
-ghost use Rattle.harness_knobs.specs.Knobs.{fmOf, pluckOf, pianoOf, bassOf, voiceAt, envAt};
+ghost use Rattle.dsl.specs.Sets.{fmBy, pluckBy, pianoBy, bassBy};
+ghost use Rattle.harness_knobs.specs.Knobs.{knobFrom, voiceAt, envAt};
 use dsl::Adsr;
 use dsl::BassKnobs;
 use dsl::FmKnobs;
@@ -26,7 +27,7 @@ pub enum EnvAt {
 
 fn fm_knobs(k: &[f32]) -> FmKnobs
     requires { ⌜ length (now k) ≡ 22 ⌝ }
-    ensures { λ r. ⌜ r ≡ fmOf (now (k .entry)) ⌝ }
+    ensures { λ r. ⌜ r ≡ fmBy (knobFrom 0 (now (k .entry))) ⌝ }
 {
     FmKnobs {
         fm_ratio: k[0],
@@ -37,7 +38,7 @@ fn fm_knobs(k: &[f32]) -> FmKnobs
 
 fn pluck_knobs(k: &[f32]) -> PluckKnobs
     requires { ⌜ length (now k) ≡ 22 ⌝ }
-    ensures { λ r. ⌜ r ≡ pluckOf (now (k .entry)) ⌝ }
+    ensures { λ r. ⌜ r ≡ pluckBy (knobFrom 3 (now (k .entry))) ⌝ }
 {
     PluckKnobs {
         pluck_decay: k[3],
@@ -49,7 +50,7 @@ fn pluck_knobs(k: &[f32]) -> PluckKnobs
 
 fn piano_knobs(k: &[f32]) -> PianoKnobs
     requires { ⌜ length (now k) ≡ 22 ⌝ }
-    ensures { λ r. ⌜ r ≡ pianoOf (now (k .entry)) ⌝ }
+    ensures { λ r. ⌜ r ≡ pianoBy (knobFrom 7 (now (k .entry))) ⌝ }
 {
     PianoKnobs {
         piano_hammer: k[7],
@@ -62,7 +63,7 @@ fn piano_knobs(k: &[f32]) -> PianoKnobs
 
 fn bass_knobs(k: &[f32]) -> BassKnobs
     requires { ⌜ length (now k) ≡ 22 ⌝ }
-    ensures { λ r. ⌜ r ≡ bassOf (now (k .entry)) ⌝ }
+    ensures { λ r. ⌜ r ≡ bassBy (knobFrom 12 (now (k .entry))) ⌝ }
 {
     BassKnobs {
         bass_cutoff: k[12],

@@ -13,6 +13,7 @@ use libc::STDIN_FILENO;
 use outcome::Outcome;
 use rng::Rng;
 use score::Seq;
+use score::Timing;
 use session::Session;
 
 // How many values of a kind a line can have.
@@ -60,12 +61,15 @@ fn env_of(line: &[u8]) -> EnvAt {
 }
 
 fn seq_of(line: &[u8], voice: SeqVoice, env: Adsr) -> Seq {
-    Seq {
+    let timing = Timing {
         rate: vectors::u32_field(line, 1),
         tempo: vectors::f32_field(line, 2),
         steps_per_beat: vectors::u32_field(line, 3),
         swing: vectors::f32_field(line, 4),
         humanize: vectors::f32_field(line, 5),
+    };
+    Seq {
+        timing,
         voice,
         duty: vectors::f32_field(line, 7),
         env,

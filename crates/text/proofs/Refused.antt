@@ -9,13 +9,17 @@ use borrow.Author.Tests.{lt-ltb, ltb-false}
 use lib.Dec.{ltb}
 use lib.ListN.{length}
 use Rattle.laws.proofs.If.{if-true}
-use Rattle.outcome.proofs.Refusing.{cond-zero}
 use Rattle.tally.specs.Tally.{tally}
 use Rattle.text_digits.specs.Read.{Read, got, broken}
 use Rattle.text_listing.specs.Lines.{printedR}
 use Rattle.text_read.specs.Notes.{countOf}
 use Rattle.text_read.specs.Text.{Text, textOf}
 use Rattle.text.specs.Listing.{callOf, shown, played, formBroken, tooLarge, textRefusal, playedRead, unlessRefused, listing}
+
+-- a number by tests is 0: the first test is false, and so is the rest 0
+not-first : (b : Bool) (n rest : ℕ) → cond b (suc n) rest ≡ 0 → (b ≡ false) × (rest ≡ 0)
+not-first true n rest e = absurd (omega arith)
+not-first false n rest e = (refl, e)
 
 -- "16 input above 65,536 bytes", before all others
 pub refusal-long : (text : List ℕ) → 65536 < length text → 16 ≡ textRefusal text
@@ -61,6 +65,6 @@ pub unrefused-read : (text : List ℕ) → textRefusal text ≡ 0 → Unrefused 
 unfolding textRefusal
 unrefused-read text e =
     let x = textOf text in
-    let few = cond-zero (ltb 65536 (length text)) 15 (cond (formBroken x) 15 (cond (tooLarge x) 16 0)) e in
-    let formed = cond-zero (formBroken x) 14 (cond (tooLarge x) 16 0) (few .1) in
-    unrefused text x refl (ltb-false 65536 (length text) (few .0)) (formed .0) (cond-zero (tooLarge x) 15 0 (formed .1) .0)
+    let few = not-first (ltb 65536 (length text)) 15 (cond (formBroken x) 15 (cond (tooLarge x) 16 0)) e in
+    let formed = not-first (formBroken x) 14 (cond (tooLarge x) 16 0) (few .1) in
+    unrefused text x refl (ltb-false 65536 (length text) (few .0)) (formed .0) (not-first (tooLarge x) 15 0 (formed .1) .0)

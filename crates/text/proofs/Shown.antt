@@ -9,12 +9,13 @@ use lib.ListN.{length}
 use Rattle.laws.proofs.If.{if-true, if-false}
 use Rattle.rng.specs.SplitMix64.{stateAfter}
 use Rattle.outcome.specs.Answer.{Result}
-use Rattle.score_contract.specs.ScoreCall.{Event, Scored}
+use Rattle.score.specs.Score.{Score}
+use Rattle.score_contract.specs.ScoreCall.{Event, Scored, scoreIn}
 use Rattle.session.specs.Opened.{sessionAt}
 use Rattle.score.specs.declared.seq.Seq.{Seq}
 use Rattle.session.specs.declared.Session.{Session}
-use Rattle.tally.specs.Tally.{Call, tally}
-use Rattle.tally.specs.Claim.{none, call, callIn, seenIn}
+use Rattle.tally.specs.Tally.{tally}
+use Rattle.tally.specs.Claim.{none, call, seenIn}
 use Rattle.tally.proofs.AllCalls.{all-calls}
 use Rattle.text_digits.specs.Read.{Read, got, broken}
 use Rattle.text_read.specs.Notes.{countOf}
@@ -29,19 +30,19 @@ use Rattle.text.specs.Listing.{callOf, shownAt, shownOne, shown, played,
 shown-session : (seed end : ℕ) (b : Session) (r : Result) → b ≡ sessionAt seed end → shownAt (b .rng .0) (b .draw) r ≡ shownAt (stateAfter seed end) end r
 shown-session seed end b r e = ap (λ (x : Session). shownAt (x .rng .0) (x .draw) r) e
 
-pub one-call : (seed draw : ℕ) (e : Event) → Scored (sessionAt seed draw) e → shownAt (e .answer .session .rng .0) (e .answer .session .draw) (seenIn e) ≡ shown seed (tally seed draw (callIn e ∷ []))
+pub one-call : (seed draw : ℕ) (e : Event) → Scored (sessionAt seed draw) e
+    → shownAt (e .answer .session .rng .0) (e .answer .session .draw) (seenIn e) ≡ shown seed (tally seed draw (scoreIn e ∷ []))
 one-call seed draw e scored =
     let all = all-calls seed draw (e ∷ []) (e .answer .session) (call e scored none) in
-    let t = tally seed draw (callIn e ∷ []) in
-    let end : e .answer .session ≡ sessionAt seed (t .end) = all .session ∙ ap (sessionAt seed) (sym (all .tallied-end)) in
-    shown-session seed (t .end) (e .answer .session) (seenIn e) end ∙ ap (shownOne seed (t .end)) (all .results)
+    let t = tally seed draw (scoreIn e ∷ []) in
+    shown-session seed (t .end) (e .answer .session) (seenIn e) (all .session) ∙ ap (shownOne seed (t .end)) (all .results)
 
 -- the call of a text score that was made on an opened session, and the buffers that it was lent
-pub played-by : (seq : Seq) (notes : List ℕ) (n seed draw : ℕ) (a : Session) (e : Event) → a ≡ sessionAt seed draw → Scored a e → callIn e ≡ callOf seq notes n
+pub played-by : (seq : Seq) (notes : List ℕ) (n seed draw : ℕ) (a : Session) (e : Event) → a ≡ sessionAt seed draw → Scored a e → scoreIn e ≡ callOf seq notes n
     → shownAt (e .answer .session .rng .0) (e .answer .session .draw) (seenIn e) ≡ played seq notes n seed draw
 unfolding played
 played-by seq notes n seed draw a e opened scored is =
-    one-call seed draw e (subst (λ (x : Session). Scored x e) opened scored) ∙ ap (λ (c : Call). shown seed (tally seed draw (c ∷ []))) is
+    one-call seed draw e (subst (λ (x : Session). Scored x e) opened scored) ∙ ap (λ (s : Score). shown seed (tally seed draw (s ∷ []))) is
 
 -- ---- by which number a text is refused, and which listing it then has
 listed-by : (n : ℕ) (l : List ℕ) → 0 < n → printedR n ≡ unlessRefused n l

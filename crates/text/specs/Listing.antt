@@ -6,9 +6,9 @@ use lib.ListN.{length}
 use lib.Dec.{ltb}
 use Rattle.rng.specs.SplitMix64.{stateAfter}
 use Rattle.outcome.specs.Answer.{Result, refused, accepted}
-use Rattle.score.specs.Score.{scoreOf}
+use Rattle.score.specs.Score.{Score}
 use Rattle.score.specs.declared.seq.Seq.{Seq}
-use Rattle.tally.specs.Tally.{Call, Tally, tally}
+use Rattle.tally.specs.Tally.{Tally, tally}
 use Rattle.text_digits.specs.Read.{Read, got, broken}
 use Rattle.text_read.specs.Text.{Text, textOf}
 use Rattle.text_read.specs.Notes.{countOf}
@@ -16,8 +16,8 @@ use Rattle.text_listing.specs.Lines.{listingOf, printedR}
 
 -- the score call of some numbers and a voice, note words and n frames: an empty lane ("Text pitches are numbers, never curves"), a note buffer of 2,048 values and a string
 -- buffer of 9,600, so that neither 20 nor 21 applies
-abbrev pub callOf : Seq → List ℕ → ℕ → Call
-callOf seq notes n = record { score = scoreOf seq notes [] n; room = 2048; string = 9600 }
+abbrev pub callOf : Seq → List ℕ → ℕ → Score
+callOf seq notes n = record { seq = seq; notes = notes; lane = []; n = n; room = 2048; string = 9600 }
 
 -- "prints G with the end state and draw count, then one F line a frame"; "A refused score prints one line alone"
 abbrev pub shownAt : ℕ → ℕ → Result → List ℕ

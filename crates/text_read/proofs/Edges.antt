@@ -41,11 +41,7 @@ abbrev says : SeqVoice → List ℕ → Text
 says voice notes =
     record {
       seq = record {
-        rate = 8000;
-        tempo = ofBits binary32 0x42f00000;
-        «steps_per_beat» = 4;
-        swing = ofBits binary32 0;
-        humanize = ofBits binary32 0;
+        timing = record { rate = 8000; tempo = ofBits binary32 0x42f00000; «steps_per_beat» = 4; swing = ofBits binary32 0; humanize = ofBits binary32 0 };
         voice = voice;
         duty = ofBits binary32 0x3f000000;
         env = record { a = ofBits binary32 0; d = ofBits binary32 0; s = ofBits binary32 0x3f800000; r = ofBits binary32 0; punch = ofBits binary32 0 };

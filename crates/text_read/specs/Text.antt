@@ -25,11 +25,7 @@ pub record Text : Type 0 where
 abbrev pub seqOf : Numbers → Adsr → Sound → Seq
 seqOf a env v =
     record {
-      rate = a .rate;
-      tempo = a .tempo;
-      «steps_per_beat» = a .«steps_per_beat»;
-      swing = a .swing;
-      humanize = a .humanize;
+      timing = record { rate = a .rate; tempo = a .tempo; «steps_per_beat» = a .«steps_per_beat»; swing = a .swing; humanize = a .humanize };
       voice = v .voice;
       duty = v .duty;
       env = env;

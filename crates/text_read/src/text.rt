@@ -3,6 +3,7 @@ ghost use Rattle.text_read.specs.Text.{Parses};
 use crate::notes::Count;
 use crate::notes::notes;
 use score::Seq;
+use score::Timing;
 use text_lines::LineE;
 use text_lines::LineG;
 use text_lines::LineS;
@@ -49,12 +50,15 @@ pub fn read_score(text: &[u8], words: &mut [u32]) -> Parsed
         return Parsed::Broken;
     };
     let voice = sound.voice;
-    let seq = Seq {
+    let timing = Timing {
         rate: numbers.rate,
         tempo: numbers.tempo,
         steps_per_beat: numbers.steps_per_beat,
         swing: numbers.swing,
         humanize: numbers.humanize,
+    };
+    let seq = Seq {
+        timing,
         voice,
         duty: sound.duty,
         env,

@@ -6,14 +6,11 @@ use mathlib.Core.Bool.{cond}
 use lib.ListN.{replicate}
 use lib.Dec.{eqb}
 use lib.Ieee.{binary32, ofBits}
+use Rattle.dsl.specs.Sets.{fmBy, pluckBy, pianoBy, bassBy}
 use Rattle.dsl.specs.Wave.{waveAt}
 use Rattle.dsl.specs.declared.wave.SeqWave.{SeqWave}
 use Rattle.dsl.specs.declared.wave.WaveAt.{WaveAt}
 use Rattle.dsl.specs.declared.wave.WaveAt.the-variants.{Wave, Nothing}
-use Rattle.dsl.specs.declared.knobs.FmKnobs.{FmKnobs}
-use Rattle.dsl.specs.declared.knobs.PluckKnobs.{PluckKnobs}
-use Rattle.dsl.specs.declared.knobs.PianoKnobs.{PianoKnobs}
-use Rattle.dsl.specs.declared.knobs.BassKnobs.{BassKnobs}
 use Rattle.dsl.specs.declared.knobs.SeqVoice.{SeqVoice}
 use Rattle.text_digits.specs.Read.{Read, got, broken, after, byte}
 use Rattle.text_lines.specs.Line.{float, word, field, ending, floatAt}
@@ -36,41 +33,9 @@ bassPlace = 15
 unfoldable pub knobCount : ℕ → ℕ
 knobCount place = cond (eqb place fmPlace) 3 (cond (eqb place pluckPlace) 4 (cond (eqb place pianoPlace) 5 (cond (eqb place bassPlace) 10 0)))
 
--- The sets of some bits, in the order of node.rs; a knob that is not written has the bits 0.
-abbrev pub fmOfBits : List ℕ → FmKnobs
-fmOfBits bits = record { «fm_ratio» = floatAt bits 0; «fm_index» = floatAt bits 1; «fm_strike» = floatAt bits 2 }
-
-abbrev pub pluckOfBits : List ℕ → PluckKnobs
-pluckOfBits bits = record { «pluck_decay» = floatAt bits 0; «pluck_body» = floatAt bits 1; «pluck_pick» = floatAt bits 2; «pluck_tone» = floatAt bits 3 }
-
-abbrev pub pianoOfBits : List ℕ → PianoKnobs
-pianoOfBits bits =
-    record {
-      «piano_hammer» = floatAt bits 0;
-      «piano_strike» = floatAt bits 1;
-      «piano_inharm» = floatAt bits 2;
-      «piano_detune» = floatAt bits 3;
-      «piano_decay» = floatAt bits 4;
-    }
-
-abbrev pub bassOfBits : List ℕ → BassKnobs
-bassOfBits bits =
-    record {
-      «bass_cutoff» = floatAt bits 0;
-      «bass_env» = floatAt bits 1;
-      «bass_env_vel» = floatAt bits 2;
-      «bass_decay» = floatAt bits 3;
-      «bass_click» = floatAt bits 4;
-      «bass_body» = floatAt bits 5;
-      «bass_sub» = floatAt bits 6;
-      «bass_sub_ratio» = floatAt bits 7;
-      «bass_drive» = floatAt bits 8;
-      «bass_body_decay» = floatAt bits 9;
-    }
-
--- the voice of the bits of each set
+-- the voice of the bits of each set; a knob that is not written has the bits 0
 abbrev pub voiceWith : SeqWave → List ℕ → List ℕ → List ℕ → List ℕ → SeqVoice
-voiceWith wave fm pluck piano bass = record { wave = wave; fm = fmOfBits fm; pluck = pluckOfBits pluck; piano = pianoOfBits piano; bass = bassOfBits bass }
+voiceWith wave fm pluck piano bass = record { wave = wave; fm = fmBy (floatAt fm); pluck = pluckBy (floatAt pluck); piano = pianoBy (floatAt piano); bass = bassBy (floatAt bass) }
 
 -- the voice of a wave and its own knobs
 unfoldable pub voiceOf : ℕ → SeqWave → List ℕ → SeqVoice

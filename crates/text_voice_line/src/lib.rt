@@ -1,8 +1,10 @@
 // The line V of a text score: a wave with its knobs, and the duty.
 ghost use mathlib.Core.Path.{_≡_};
 ghost use lib.ListN.{drop};
+ghost use Rattle.dsl.specs.Sets.{fmBy, pluckBy, pianoBy, bassBy};
 ghost use Rattle.dsl.specs.declared.wave.WaveAt.the-variants.{Wave};
-ghost use Rattle.text_voice_line.specs.Voice.{knobCount, fmOfBits, pluckOfBits, pianoOfBits, bassOfBits, voiceWith, voiceOf, soundOf, lineV};
+ghost use Rattle.text_lines.specs.Line.{floatAt};
+ghost use Rattle.text_voice_line.specs.Voice.{knobCount, voiceWith, voiceOf, soundOf, lineV};
 ghost use Rattle.text_voice_line.specs.Answers.{soundIn};
 use dsl::BassKnobs;
 use dsl::FmKnobs;
@@ -50,7 +52,7 @@ fn knob_count(place: u32) -> usize
 
 // The knobs of some bits, 0 where there are none.
 fn fm_of(bits: &[u32]) -> FmKnobs
-    ensures { λ r. ⌜ r ≡ fmOfBits (now (bits .entry)) ⌝ }
+    ensures { λ r. ⌜ r ≡ fmBy (floatAt (now (bits .entry))) ⌝ }
 {
     FmKnobs {
         fm_ratio: float_at(bits, 0),
@@ -60,7 +62,7 @@ fn fm_of(bits: &[u32]) -> FmKnobs
 }
 
 fn pluck_of(bits: &[u32]) -> PluckKnobs
-    ensures { λ r. ⌜ r ≡ pluckOfBits (now (bits .entry)) ⌝ }
+    ensures { λ r. ⌜ r ≡ pluckBy (floatAt (now (bits .entry))) ⌝ }
 {
     PluckKnobs {
         pluck_decay: float_at(bits, 0),
@@ -71,7 +73,7 @@ fn pluck_of(bits: &[u32]) -> PluckKnobs
 }
 
 fn piano_of(bits: &[u32]) -> PianoKnobs
-    ensures { λ r. ⌜ r ≡ pianoOfBits (now (bits .entry)) ⌝ }
+    ensures { λ r. ⌜ r ≡ pianoBy (floatAt (now (bits .entry))) ⌝ }
 {
     PianoKnobs {
         piano_hammer: float_at(bits, 0),
@@ -83,7 +85,7 @@ fn piano_of(bits: &[u32]) -> PianoKnobs
 }
 
 fn bass_of(bits: &[u32]) -> BassKnobs
-    ensures { λ r. ⌜ r ≡ bassOfBits (now (bits .entry)) ⌝ }
+    ensures { λ r. ⌜ r ≡ bassBy (floatAt (now (bits .entry))) ⌝ }
 {
     BassKnobs {
         bass_cutoff: float_at(bits, 0),

@@ -40,7 +40,12 @@ same-length-2 : tie.Need-same-length-2
 same-length-2 c = search needs
 
 returns-2 : tie.Need-returns-2
-returns-2 c = call-holds _ _ _ _ (sym (c .before .before .before .before .before .before .before .before .before .before .before .before .before .before .voice .given .1) ∙ c .before .before .before .before .before .before .before .before .before .before .before .before .before .before .before .before .voice-at .ensures) (c .before .before .before .before .before .before .before .before .before .before .before .new .ensures) (c .before .before .before .before .before .before .before .before .seq-note-signal .ensures) (c .number-of .ensures) (c .before .draws-of .ensures) (c .before .before .state .ensures)
+returns-2 c =
+    let b8 = c .before .before .before .before .before .before .before .before in
+    let b14 = b8 .before .before .before .before .before .before in
+    let voice = sym (b14 .voice .given .1) ∙ b14 .before .before .voice-at .ensures in
+    let call = b8 .seq-note-signal .ensures in
+    call-holds _ _ _ _ voice (b8 .before .before .before .new .ensures) call (c .number-of .ensures) (c .before .draws-of .ensures) (c .before .before .state .ensures)
 
 pub h-note-spec : {M : Type 1} → statement M
 h-note-spec =

@@ -28,7 +28,11 @@ enum-told-2 : tie.Need-enum-told-2
 enum-told-2 c = search needs
 
 returns-2 : tie.Need-returns-2
-returns-2 c = no-envelope _ _ (sym (c .before .before .before .before .voice .given .1) ∙ c .before .before .before .before .before .before .voice-at .ensures) (sym (c .enum-told2 .given .1) ∙ c .before .before .env-at .ensures) (none-holds _ refl refl refl refl refl) (refl, refl)
+returns-2 c =
+    let b4 = c .before .before .before .before in
+    let voice = sym (b4 .voice .given .1) ∙ b4 .before .before .voice-at .ensures in
+    let env = sym (c .enum-told2 .given .1) ∙ c .before .before .env-at .ensures in
+    no-envelope _ _ voice env (none-holds _ refl refl refl refl refl) (refl, refl)
 
 new-requires : tie.Need-new-requires
 new-requires c κs = search needs
@@ -55,7 +59,14 @@ same-length-3 : tie.Need-same-length-3
 same-length-3 c = search needs
 
 returns-3 : tie.Need-returns-3
-returns-3 c = call-holds _ _ (sym (c .before .before .before .before .before .before .before .before .before .before .before .before .before .before .before .before .before .before .before .before .before .before .voice .given .1) ∙ c .before .before .before .before .before .before .before .before .before .before .before .before .before .before .before .before .before .before .before .before .before .before .before .before .voice-at .ensures) _ _ _ (sym (c .before .before .before .before .before .before .before .before .before .before .before .before .before .before .before .before .before .before .env .given .1) ∙ c .before .before .before .before .before .before .before .before .before .before .before .before .before .before .before .before .before .before .before .before .env-at .ensures) (c .before .before .before .before .before .before .before .before .before .before .before .before .before .before .before .new .ensures) (c .before .before .before .before .before .before .before .before .before .before .render-seq .ensures) (c .number-of .ensures) (c .before .draws-of .ensures) (c .before .before .state .ensures) refl
+returns-3 c =
+    let b10 = c .before .before .before .before .before .before .before .before .before .before in
+    let b18 = b10 .before .before .before .before .before .before .before .before in
+    let b22 = b18 .before .before .before .before in
+    let voice = sym (b22 .voice .given .1) ∙ b22 .before .before .voice-at .ensures in
+    let env = sym (b18 .env .given .1) ∙ b18 .before .before .env-at .ensures in
+    let call = b10 .render-seq .ensures in
+    call-holds _ _ voice _ _ _ env (b10 .before .before .before .before .before .new .ensures) call (c .number-of .ensures) (c .before .draws-of .ensures) (c .before .before .state .ensures) refl
 
 pub h-score-spec : {M : Type 1} → statement M
 h-score-spec =

@@ -5,7 +5,6 @@ use mathlib.Core.List.{[]}
 use native.Mathlib.Omega.{arith}
 use lib.ListN.{length, drop, length-append}
 use lib.Seq.{length-take-le, take-at}
-use Rattle.score.specs.Score.{scoreOf}
 use Rattle.text_listing.proofs.Put.{printed-as}
 use Rattle.text.proofs.Shown.{played-by}
 use borrow.Author.Needs.{needs}
@@ -111,7 +110,8 @@ returns c =
     let n = length-take-le (a .n) l fits in
     let opened = b13 .«open» .ensures in
     printed-as
-    (played-by (a .seq) (a .notes .now) (a .n) (a .seed) (a .draw) _ _ opened (v .ensures) (λ j. record { score = scoreOf (a .seq) (a .notes .now) [] (n j); room = room j; string = string j }))
+    (played-by (a .seq) (a .notes .now) (a .n) (a .seed) (a .draw) _ _ opened (v .ensures)
+    (λ j. record { seq = a .seq; notes = a .notes .now; lane = []; n = n j; room = room j; string = string j }))
     printed
 
 pub play-score-spec : {M : Type 1} → statement M
