@@ -2,24 +2,19 @@
 use Prim.Native.Nat.{ℕ, _≤_, _<_}
 use mathlib.Core.Path.{_≡_, sym, ap, _∙_}
 use mathlib.Core.List.{List}
-use mathlib.Core.Bool.{not}
 use native.Mathlib.Omega.{arith}
 use native.Mathlib.Nat.{zero-add}
 use borrow.Author.Tests.{ltb-false, eqb-false, eqb-true, not-false}
 use lib.ListN.{length, drop, getD}
-use lib.Dec.{ltb, eqb}
 use lib.Ieee.{Float, nan}
 use Rattle.rng.specs.SplitMix64.{stateAfter}
 use Rattle.rng.specs.declared.Rng.{Rng}
 use Rattle.dsl.specs.Domain.{Rate, Frames}
-use Rattle.dsl.specs.Sized.{sizedOf, allSized}
-use Rattle.dsl.specs.Knobs.{knobList}
 use Rattle.dsl.specs.Pitch.{pitchAt}
 use Rattle.dsl.specs.declared.pitch.Pitch.the-variants.{Curve}
 use Rattle.counts.specs.Draws.{drawsOf}
 use Rattle.voice.specs.Voice.{noteFrames}
-use Rattle.dsl.specs.declared.knobs.SeqVoice.{SeqVoice}
-use Rattle.outcome.specs.Answer.{numberOf, Result, refused, accepted, unless, seen, outAfter, free}
+use Rattle.outcome.specs.Answer.{Result, accepted, unless, seen, outAfter, free}
 use Rattle.note_verdict.specs.NoteRefusals.{NoteHanded, noteCallTests, noteCallRefusal}
 use Rattle.note.specs.NoteCall.{NoteEvent, Voiced, noteHandedIn, noteResultOf, noteResultIn, rngAfter}
 use Rattle.note.specs.declared.answer.NoteAnswer.{NoteAnswer}

@@ -15,7 +15,7 @@ use Rattle.dsl.specs.declared.note.Decoded.the-variants.{Note}
 use Rattle.counts.specs.Draws.{drawsOf}
 use Rattle.voice.specs.Voice.{noteFrames}
 use Rattle.mix.specs.Mix.{mixedAt}
-use Rattle.score.specs.Score.{Score, rateIn, waveIn, noteIn, noteCount, place, noteDraws}
+use Rattle.score.specs.Score.{Score, rateIn, waveIn, place, noteDraws}
 use Rattle.score_contract.specs.Frames.{samplesIn, withNote}
 use Rattle.score.specs.declared.place.Place.{Place}
 use Rattle.score.proofs.Accepted.{NoteFine, sounded-reached}

@@ -20,8 +20,8 @@ use Rattle.outcome.specs.declared.answer.Verdict.{Verdict}
 use Rattle.outcome.specs.declared.answer.Verdict.the-variants.{Fine, Refuse}
 use Rattle.outcome.proofs.First.{none-holds, turned, chain-refused, chain-fine}
 use Rattle.score.specs.Score.{Score, noteIn, noteCount, notesIn, place}
-use Rattle.score.specs.Refusals.{callTests, valueTests, noteTests, noteRefusal, refusal}
-use Rattle.score.proofs.Accepted.{Fit, fit}
+use Rattle.score.specs.Refusals.{callTests, valueTests, noteRefusal, refusal}
+use Rattle.score.proofs.Accepted.{fit}
 
 -- ---- one note, whose words are e
 module _ (s : Score) (e : Decoded) (m : SeqNote) (is : e ≡ Note m) where

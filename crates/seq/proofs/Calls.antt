@@ -9,7 +9,7 @@ use lib.ListN.{length, drop}
 use lib.Dec.{ltb}
 use Rattle.rng.specs.SplitMix64.{stateAfter}
 use Rattle.rng.specs.declared.Rng.{Rng}
-use Rattle.outcome.specs.Answer.{numberOf, Result, refused, accepted, unless, seen, outAfter, free}
+use Rattle.outcome.specs.Answer.{Result, accepted, unless, seen, outAfter, free}
 use Rattle.outcome.specs.declared.answer.Outcome.the-variants.{Played, Refused}
 use Rattle.outcome.specs.declared.answer.Refusal.{Refusal}
 use Rattle.outcome.specs.declared.answer.Refusal.the-variants.{Draws}

@@ -1,7 +1,7 @@
 -- Demand 3 about a call, a note and a frame of any list of score calls: `Run (sessionAt s c) (es ++ e ∷ es′) b`. Assumes nothing.
-use Prim.Native.Nat.{ℕ, suc, _+_, _≤_, _<_}
+use Prim.Native.Nat.{ℕ, suc, _+_, _<_}
 use mathlib.Core.Path.{_≡_, refl, sym, ap, _∙_}
-use mathlib.Core.List.{List, [], _∷_, _++_, map}
+use mathlib.Core.List.{List, [], _∷_, _++_}
 use mathlib.Core.Bool.{false}
 use native.Mathlib.Omega.{arith}
 use native.Mathlib.Nat.{add-assoc}
@@ -13,22 +13,21 @@ use Rattle.rng.proofs.States.{state-add}
 use Rattle.dsl.specs.declared.note.SeqNote.{SeqNote}
 use Rattle.dsl.specs.declared.note.Decoded.{Decoded}
 use Rattle.dsl.specs.declared.note.Decoded.the-variants.{Note}
-use Rattle.outcome.specs.Answer.{numberOf, Result, refused, accepted, unless, seen, reported, framesIn}
+use Rattle.outcome.specs.Answer.{numberOf, refused, accepted, unless, seen, reported, framesIn}
 use Rattle.outcome.specs.declared.answer.Outcome.{Outcome}
 use Rattle.outcome.specs.declared.answer.Outcome.the-variants.{Played, Refused}
 use Rattle.outcome.specs.declared.answer.Verdict.{Verdict}
 use Rattle.outcome.specs.declared.answer.Verdict.the-variants.{Fine, Refuse}
 use Rattle.session.specs.Opened.{sessionAt}
 use Rattle.session.specs.declared.Session.{Session}
-use Rattle.score.specs.Score.{Score, noteIn, noteCount, skips, drawsIn, noteDraws, drawsBefore, scoreDraws}
+use Rattle.score.specs.Score.{noteIn, noteCount, skips, drawsIn, noteDraws, drawsBefore, scoreDraws}
 use Rattle.score.specs.Refusals.{refusal, refusalAt}
 use Rattle.score.proofs.Accepted.{accepted-score, fine-in}
-use Rattle.score_contract.specs.Frames.{samplesIn, mixNote, mixedIn, withNote, framesAfter, scoreFrames}
+use Rattle.score_contract.specs.Frames.{mixNote, mixedIn, withNote, framesAfter}
 use Rattle.score_contract.specs.ScoreCall.{Event, Scored, scoreIn, resultIn}
-use Rattle.tally.specs.Alone.{aloneOf, Alone}
-use Rattle.tally.specs.Tally.{Taken, takenAfter, allTaken, tallied, tally, total}
-use Rattle.tally.specs.Claim.{Run, none, call, seenIn, reportedIn, Agrees}
-use Rattle.tally.specs.Lists.{drawOf, stateOf, PlayedAlone}
+use Rattle.tally.specs.Tally.{Taken, allTaken, tallied}
+use Rattle.tally.specs.Claim.{Run, none, call, seenIn, reportedIn}
+use Rattle.tally.specs.Lists.{stateOf, PlayedAlone}
 use Rattle.tally.specs.Sum.{frameAfter}
 use Rattle.tally.proofs.Alone.{alone, call-fine}
 use Rattle.tally.proofs.Taking.{all-taken}

@@ -15,7 +15,7 @@ use Rattle.laws.proofs.Listed.{from-map, listed-same}
 use Rattle.rng.specs.SplitMix64.{stateAfter}
 use Rattle.dsl.specs.Note.{noteWith, noteOf, ofNote}
 use Rattle.dsl.specs.Pitch.{pitchAt, passes}
-use Rattle.dsl.specs.Sized.{sizedOf, allSized, pitchSized}
+use Rattle.dsl.specs.Sized.{allSized, pitchSized}
 use Rattle.dsl.specs.declared.pitch.Pitch.{Pitch}
 use Rattle.dsl.specs.declared.pitch.Pitch.the-variants.{Const, Curve}
 use Rattle.dsl.specs.declared.wave.SeqWave.{SeqWave}
@@ -27,7 +27,7 @@ use Rattle.groove.specs.Humanize.{seedOf, humanizeDraws}
 use Rattle.groove.specs.Timing.{humanDelay, grooveOf}
 use Rattle.groove.specs.Length.{lengthOf, soundedOf}
 use Rattle.counts.specs.Draws.{drawsOf}
-use Rattle.outcome.specs.Answer.{Result, accepted, unless, reported}
+use Rattle.outcome.specs.Answer.{accepted, unless, reported}
 use Rattle.outcome.specs.First.{Test, _⇒_, firstOf, orElse, firstRefusal}
 use Rattle.outcome.specs.declared.answer.Refusal.the-variants.{Kind, Steps, Size, Reach, Words, Lane, NoteBuffer, StringBuffer, Draws}
 use Rattle.outcome.specs.declared.answer.Verdict.{Verdict}
@@ -40,8 +40,8 @@ use Rattle.score.specs.Refusals.{numberTests, voiceTests, lentTests, listTests,
 use Rattle.score.proofs.Notes.{none-sounded, some-sounded, draws-all}
 use Rattle.score_contract.specs.ScoreCall.{Event, scoreIn}
 use Rattle.tally.specs.Tally.{allTaken, tallied, newDraw, tally}
-use Rattle.tally.specs.Claim.{Run, seenIn}
-use Rattle.tally.specs.Setting.{soundedIn, firstIn, gainSized, Alike, Sized, Reset, Resets, no-calls, more-calls, SameNoise, Unmoved, no-more, both-refused, both-accepted, silent, NoiseKept}
+use Rattle.tally.specs.Claim.{Run}
+use Rattle.tally.specs.Setting.{soundedIn, firstIn, gainSized, Alike, Reset, Resets, no-calls, more-calls, SameNoise, Unmoved, no-more, both-refused, both-accepted, silent, NoiseKept}
 use Rattle.tally.proofs.AllCalls.{one-draw, all-calls}
 
 -- ---- the draws of a note, by its sounded frames and its first pitch

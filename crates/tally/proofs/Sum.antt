@@ -18,12 +18,12 @@ use Rattle.rng.specs.SplitMix64.{stateAfter}
 use Rattle.voice.proofs.Own.{note-length}
 use Rattle.mix.specs.Mix.{gained, mixedAt}
 use Rattle.mix.proofs.Mixing.{silence-length, silence-at, mixed-length, mixed-before, mixed-within, mixed-past}
-use Rattle.outcome.specs.Answer.{Result, framesIn}
+use Rattle.outcome.specs.Answer.{framesIn}
 use Rattle.outcome.specs.declared.answer.Verdict.the-variants.{Fine}
 use Rattle.score.specs.Score.{Score, rateIn, noteIn, noteCount, place, skips, drawsBefore}
 use Rattle.score.specs.Refusals.{refusal}
 use Rattle.score.proofs.Notes.{all-within}
-use Rattle.score_contract.specs.Frames.{samplesIn, mixNote, mixedIn, withNote, framesAfter, scoreFrames}
+use Rattle.score_contract.specs.Frames.{samplesIn, mixedIn, withNote, framesAfter, scoreFrames}
 use Rattle.tally.specs.Alone.{aloneOf, Alone}
 use Rattle.tally.specs.Sum.{among, gainedBy, gainedAt, frameAfter}
 use Rattle.tally.proofs.Alone.{alone}
@@ -71,7 +71,8 @@ module _ (s : Score) (g : ℕ) (out : List Float) where
 
   no-frame : (e : Decoded) → NoNote e → (i : ℕ) → getD (withNote s e g out) i nan ≡ gainedAt s e g i (getD out i nan)
   unfolding withNote gainedAt
-  no-frame e none i = ap (λ (l : List Float). getD l i nan) (none .other out (λ m. mixedIn s m g out)) ∙ sym (none .other (getD out i nan) (λ m. gainedBy s m (framesIn (aloneOf s m g)) i (getD out i nan)))
+  no-frame e none i = ap (λ (l : List Float). getD l i nan) (none .other out (λ m. mixedIn s m g out))
+      ∙ sym (none .other (getD out i nan) (λ m. gainedBy s m (framesIn (aloneOf s m g)) i (getD out i nan)))
 
 -- ---- the first k notes
 module _ (s : Score) (seed d : ℕ) where

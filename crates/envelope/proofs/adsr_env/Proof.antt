@@ -11,7 +11,9 @@ level-requires c κs = search needs
 
 returns : tie.Need-returns
 unfolding adsrEnv punchedOf
-returns c = if-true _ (c .before .before .before .if1 .taken) (if-true _ (c .before .before .if2 .taken) (if-true _ (c .before .if3 .taken) (rw (c .before .before .before .before .before .before .level .ensures))))
+returns c =
+    let b6 = c .before .before .before .before .before .before in
+    if-true _ (c .before .before .before .if1 .taken) (if-true _ (c .before .before .if2 .taken) (if-true _ (c .before .if3 .taken) (rw (b6 .level .ensures))))
 
 returns-2 : tie.Need-returns-2
 unfolding adsrEnv punchedOf

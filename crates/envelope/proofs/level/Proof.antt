@@ -29,11 +29,17 @@ clamp-f32-requires c κs = search needs
 
 returns-4 : tie.Need-returns-4
 unfolding levelOf
-returns-4 c = if-false _ (c .before .before .before .before .before .before .before .before .if1 .left) (if-false _ (c .before .before .before .before .before .before .if2 .left) (if-false _ (c .before .before .before .before .before .if3 .left) (if-true _ (c .before .before .before .if4 .taken) (rw (c .before .clamp-f32 .ensures)))))
+returns-4 c =
+    let b5 = c .before .before .before .before .before in
+    let b6 = c .before .before .before .before .before .before in
+    let b8 = c .before .before .before .before .before .before .before .before in
+    if-false _ (b8 .if1 .left) (if-false _ (b6 .if2 .left) (if-false _ (b5 .if3 .left) (if-true _ (c .before .before .before .if4 .taken) (rw (c .before .clamp-f32 .ensures)))))
 
 returns-5 : tie.Need-returns-5
 unfolding levelOf
-returns-5 c = if-false _ (c .before .before .before .before .before .if1 .left) (if-false _ (c .before .before .before .if2 .left) (if-false _ (c .before .before .if3 .left) (if-false _ (c .if4 .left) refl)))
+returns-5 c =
+    let b5 = c .before .before .before .before .before in
+    if-false _ (b5 .if1 .left) (if-false _ (c .before .before .before .if2 .left) (if-false _ (c .before .before .if3 .left) (if-false _ (c .if4 .left) refl)))
 
 pub level-spec : {M : Type 1} → statement M
 level-spec =

@@ -57,7 +57,15 @@ loop-less c = omega arith
 
 loop-again : tie.Need-loop-again Inv-loop μ-loop
 unfolding adsrAt
-loop-again c = (updated-more (c .before .before .before .before .before .loop .inv .0) nan (rw (c .before .before .adsr-env .ensures, c .before .before .before .frame-time .ensures, c .before .before .before .before .before .before .release-start .ensures, c .before .before .before .before .before .before .before .nearest-u32-to-f32 .ensures)), omega arith)
+loop-again c = (
+  updated-more (c .before .before .before .before .before .loop .inv .0) nan (rw (
+    c .before .before .adsr-env .ensures,
+    c .before .before .before .frame-time .ensures,
+    c .before .before .before .before .before .before .release-start .ensures,
+    c .before .before .before .before .before .before .before .nearest-u32-to-f32 .ensures,
+  )),
+  omega arith,
+)
 
 same-length : tie.Need-same-length Inv-loop μ-loop
 same-length c = updated-kept (c .before .loop .inv .0)

@@ -42,11 +42,15 @@ returns-2 c =
 
 sound-note-requires : tie.Need-sound-note-requires
 sound-note-requires c κs =
-    let at = c .before .before .before .before .before .before .before .before .before .before .before .before .before .before .before in
+    let b5 = c .before .before .before .before .before in
+    let b7 = c .before .before .before .before .before .before .before in
+    let b9 = c .before .before .before .before .before .before .before .before .before in
+    let b15 = c .before .before .before .before .before .before .before .before .before .before .before .before .before .before .before in
+    let at = b15 in
     let pre = at .pre in
     let fit = accepted-score (score-in at) (pre .0) .fit in
-    let is = sym (c .before .before .before .before .before .before .before .before .before .note-at .ensures) ∙ c .before .before .before .before .before .before .before .note .given .1 in
-    let q = sound-asks (score-in at) _ _ _ is (c .before .before .before .before .before .place-note .ensures) (c .before .before .before .if1 .left) (fit .frames) (fine-in (score-in at) (pre .0) _ (pre .1 .0) _ is) in
+    let is = sym (b9 .note-at .ensures) ∙ b7 .note .given .1 in
+    let q = sound-asks (score-in at) _ _ _ is (b5 .place-note .ensures) (c .before .before .before .if1 .left) (fit .frames) (fine-in (score-in at) (pre .0) _ (pre .1 .0) _ is) in
     let n = pre .1 .1 .0 in
     let room = pre .1 .1 .1 .0 in
     let string = pre .1 .1 .1 .1 in
@@ -63,10 +67,16 @@ same-length-3 c = search needs
 
 returns-3 : tie.Need-returns-3
 returns-3 c =
-    let at = c .before .before .before .before .before .before .before .before .before .before .before .before .before .before .before .before .before .before .before .before .before .before in
-    let is = sym (c .before .before .before .before .before .before .before .before .before .before .before .before .before .before .before .before .note-at .ensures) ∙ c .before .before .before .before .before .before .before .before .before .before .before .before .before .before .note .given .1 in
-    let v = c .before .before .before .before .before .before .sound-note .ensures in
-    let r = sounded-note (score-in at) _ _ _ is (c .before .before .before .before .before .before .before .before .before .before .before .before .place-note .ensures) (c .before .before .before .before .before .before .before .before .before .before .if1 .left) _ _ _ _ (v .0) (v .1 .0) in
+    let b6 = c .before .before .before .before .before .before in
+    let b10 = c .before .before .before .before .before .before .before .before .before .before in
+    let b12 = c .before .before .before .before .before .before .before .before .before .before .before .before in
+    let b14 = c .before .before .before .before .before .before .before .before .before .before .before .before .before .before in
+    let b16 = c .before .before .before .before .before .before .before .before .before .before .before .before .before .before .before .before in
+    let b22 = c .before .before .before .before .before .before .before .before .before .before .before .before .before .before .before .before .before .before .before .before .before .before in
+    let at = b22 in
+    let is = sym (b16 .note-at .ensures) ∙ b14 .note .given .1 in
+    let v = b6 .sound-note .ensures in
+    let r = sounded-note (score-in at) _ _ _ is (b12 .place-note .ensures) (b10 .if1 .left) _ _ _ _ (v .0) (v .1 .0) in
     (r .0, (r .1, (rw (at .pre .1 .1 .0) at (v .1 .1 .0), v .1 .1 .1)))
 
 pub play-note-spec : {M : Type 1} → statement M

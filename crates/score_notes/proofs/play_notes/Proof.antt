@@ -10,7 +10,8 @@ use Rattle.score_notes.proofs.play_notes.Statement.{statement}
 use Rattle.score_notes.proofs.play_notes.Tie as tie
 
 abbrev Inv-loop : tie.InvT-loop
-Inv-loop seq notes lane lent out₀ note-buf₀ string₀ count after₀ k₀ out note-buf string after k = (Playing (scoreOf seq notes lane lent) (after₀ .0) note-buf₀ string₀ k (after .0) out note-buf string) × (count ≡ length notes / 5)
+Inv-loop seq notes lane lent out₀ note-buf₀ string₀ count after₀ k₀ out note-buf string after k =
+    (Playing (scoreOf seq notes lane lent) (after₀ .0) note-buf₀ string₀ k (after .0) out note-buf string) × (count ≡ length notes / 5)
 
 abbrev μ-loop : tie.MeasureT-loop
 μ-loop seq notes lane lent out₀ note-buf₀ string₀ count after₀ k₀ out note-buf string after k = count - k
