@@ -6,9 +6,6 @@ use borrow.Author.Needs.{needs}
 use Rattle.envelope.proofs.adsr_env.Statement.{statement}
 use Rattle.envelope.proofs.adsr_env.Tie as tie
 
-level-requires : tie.Need-level-requires
-level-requires c κs = search needs
-
 returns : tie.Need-returns
 unfolding adsrEnv punchedOf
 returns c =
@@ -26,4 +23,4 @@ returns-2 c =
     (c .if1 .came)
 
 pub adsr-env-spec : {M : Type 1} → statement M
-adsr-env-spec = tie.close (tie.spec level-requires returns returns-2)
+adsr-env-spec = tie.close (tie.spec (λ c κs. search needs) returns returns-2)

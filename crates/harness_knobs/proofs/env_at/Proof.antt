@@ -11,21 +11,6 @@ returns : tie.Need-returns
 unfolding envAt
 returns c = if-false _ (ne-eqb _ _ (c .if1 .taken)) refl
 
-shared-slice-read-t5 : tie.Need-shared-slice-read-t5
-shared-slice-read-t5 c = search needs
-
-shared-slice-read-t7 : tie.Need-shared-slice-read-t7
-shared-slice-read-t7 c = search needs
-
-shared-slice-read-t9 : tie.Need-shared-slice-read-t9
-shared-slice-read-t9 c = search needs
-
-shared-slice-read-t11 : tie.Need-shared-slice-read-t11
-shared-slice-read-t11 c = search needs
-
-shared-slice-read-t13 : tie.Need-shared-slice-read-t13
-shared-slice-read-t13 c = search needs
-
 returns-2 : tie.Need-returns-2
 unfolding envAt
 returns-2 c = if-true _ (eq-eqb _ _ (c .before .before .before .before .before .if1 .left)) refl
@@ -35,9 +20,9 @@ env-at-spec =
     tie.close
     (tie.spec
     returns
-    shared-slice-read-t5
-    shared-slice-read-t7
-    shared-slice-read-t9
-    shared-slice-read-t11
-    shared-slice-read-t13
+    (λ c. search needs)
+    (λ c. search needs)
+    (λ c. search needs)
+    (λ c. search needs)
+    (λ c. search needs)
     returns-2)

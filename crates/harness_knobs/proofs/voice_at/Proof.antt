@@ -11,30 +11,9 @@ returns : tie.Need-returns
 unfolding voiceAt
 returns c = if-false _ (ne-eqb _ _ (c .if1 .taken)) refl
 
-at-requires : tie.Need-at-requires
-at-requires c κs = search needs
-
-enum-known-wave : tie.Need-enum-known-wave
-enum-known-wave c = search needs
-
-enum-told : tie.Need-enum-told
-enum-told c = search needs
-
 returns-2 : tie.Need-returns-2
 unfolding voiceAt
 returns-2 c = if-true _ (eq-eqb _ _ (c .before .before .before .if1 .left)) (rw (← (c .before .before .at .ensures), c .enum-told .given .1))
-
-fm-knobs-requires : tie.Need-fm-knobs-requires
-fm-knobs-requires c κs = search needs
-
-pluck-knobs-requires : tie.Need-pluck-knobs-requires
-pluck-knobs-requires c κs = search needs
-
-piano-knobs-requires : tie.Need-piano-knobs-requires
-piano-knobs-requires c κs = search needs
-
-bass-knobs-requires : tie.Need-bass-knobs-requires
-bass-knobs-requires c κs = search needs
 
 returns-3 : tie.Need-returns-3
 unfolding voiceAt
@@ -49,12 +28,12 @@ voice-at-spec =
     tie.close
     (tie.spec
     returns
-    at-requires
-    enum-known-wave
-    enum-told
+    (λ c κs. search needs)
+    (λ c. search needs)
+    (λ c. search needs)
     returns-2
-    fm-knobs-requires
-    pluck-knobs-requires
-    piano-knobs-requires
-    bass-knobs-requires
+    (λ c κs. search needs)
+    (λ c κs. search needs)
+    (λ c κs. search needs)
+    (λ c κs. search needs)
     returns-3)

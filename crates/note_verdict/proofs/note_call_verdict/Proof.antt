@@ -17,45 +17,6 @@ handed-in c = record {
   string = c .args .string;
 }
 
-domain-verdict-requires : tie.Need-domain-verdict-requires
-domain-verdict-requires c κs = search needs
-
-knobs-sized-requires : tie.Need-knobs-sized-requires
-knobs-sized-requires c κs = search needs
-
-or-else-requires : tie.Need-or-else-requires
-or-else-requires c κs = search needs
-
-or-else-requires-2 : tie.Need-or-else-requires-2
-or-else-requires-2 c κs = search needs
-
-is-sized-requires : tie.Need-is-sized-requires
-is-sized-requires c κs = search needs
-
-or-else-requires-3 : tie.Need-or-else-requires-3
-or-else-requires-3 c κs = search needs
-
-all-sized-requires : tie.Need-all-sized-requires
-all-sized-requires c κs = search needs
-
-or-else-requires-4 : tie.Need-or-else-requires-4
-or-else-requires-4 c κs = search needs
-
-all-sized-requires-2 : tie.Need-all-sized-requires-2
-all-sized-requires-2 c κs = search needs
-
-or-else-requires-5 : tie.Need-or-else-requires-5
-or-else-requires-5 c κs = search needs
-
-or-else-requires-6 : tie.Need-or-else-requires-6
-or-else-requires-6 c κs = search needs
-
-or-else-requires-7 : tie.Need-or-else-requires-7
-or-else-requires-7 c κs = search needs
-
-or-else-requires-8 : tie.Need-or-else-requires-8
-or-else-requires-8 c κs = search needs
-
 returns : tie.Need-returns
 unfolding noteCallRefusal
 returns c =
@@ -89,17 +50,17 @@ pub note-call-verdict-spec : {M : Type 1} → statement M
 note-call-verdict-spec =
     tie.close
     (tie.spec
-    domain-verdict-requires
-    knobs-sized-requires
-    or-else-requires
-    or-else-requires-2
-    is-sized-requires
-    or-else-requires-3
-    all-sized-requires
-    or-else-requires-4
-    all-sized-requires-2
-    or-else-requires-5
-    or-else-requires-6
-    or-else-requires-7
-    or-else-requires-8
+    (λ c κs. search needs)
+    (λ c κs. search needs)
+    (λ c κs. search needs)
+    (λ c κs. search needs)
+    (λ c κs. search needs)
+    (λ c κs. search needs)
+    (λ c κs. search needs)
+    (λ c κs. search needs)
+    (λ c κs. search needs)
+    (λ c κs. search needs)
+    (λ c κs. search needs)
+    (λ c κs. search needs)
+    (λ c κs. search needs)
     returns)

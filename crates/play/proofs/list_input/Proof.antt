@@ -7,24 +7,6 @@ use Rattle.play.proofs.Listed.{input-listed, written-counts}
 use Rattle.play.proofs.list_input.Statement.{statement}
 use Rattle.play.proofs.list_input.Tie as tie
 
-read-full-requires : tie.Need-read-full-requires
-read-full-requires c κs = search needs
-
-slice-reshare-prefix-put-listing : tie.Need-slice-reshare-prefix-put-listing
-slice-reshare-prefix-put-listing c = search needs
-
-slice-aggregate-put-listing : tie.Need-slice-aggregate-put-listing
-slice-aggregate-put-listing c = search needs
-
-put-listing-requires : tie.Need-put-listing-requires
-put-listing-requires c κs = search needs
-
-same-length : tie.Need-same-length
-same-length c = search needs
-
-same-length-2 : tie.Need-same-length-2
-same-length-2 c = search needs
-
 returns : tie.Need-returns
 returns c =
     let b7 = c .before .before .before .before .before .before .before in
@@ -40,10 +22,10 @@ pub list-input-spec : {M : Type 1} → statement M
 list-input-spec =
     tie.close
     (tie.spec
-    read-full-requires
-    slice-reshare-prefix-put-listing
-    slice-aggregate-put-listing
-    put-listing-requires
-    same-length
-    same-length-2
+    (λ c κs. search needs)
+    (λ c. search needs)
+    (λ c. search needs)
+    (λ c κs. search needs)
+    (λ c. search needs)
+    (λ c. search needs)
     returns)

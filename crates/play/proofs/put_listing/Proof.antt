@@ -4,25 +4,10 @@ use Rattle.text.proofs.Most.{reply-whole, reply-not-short}
 use Rattle.play.proofs.put_listing.Statement.{statement}
 use Rattle.play.proofs.put_listing.Tie as tie
 
-play-text-requires : tie.Need-play-text-requires
-play-text-requires c κs = search needs
-
-enum-known-length : tie.Need-enum-known-length
-enum-known-length c = search needs
-
-enum-told : tie.Need-enum-told
-enum-told c = search needs
-
-same-length : tie.Need-same-length
-same-length c = search needs
-
 returns : tie.Need-returns
 returns c =
     let b5 = c .before .before .before .before .before in
     reply-whole (b5 .before .before .before .before .pre) (b5 .play-text .ensures) (c .before .length .given .1)
-
-same-length-2 : tie.Need-same-length-2
-same-length-2 c = search needs
 
 returns-2 : tie.Need-returns-2
 returns-2 c =
@@ -33,10 +18,10 @@ pub put-listing-spec : {M : Type 1} → statement M
 put-listing-spec =
     tie.close
     (tie.spec
-    play-text-requires
-    enum-known-length
-    enum-told
-    same-length
+    (λ c κs. search needs)
+    (λ c. search needs)
+    (λ c. search needs)
+    (λ c. search needs)
     returns
-    same-length-2
+    (λ c. search needs)
     returns-2)

@@ -11,15 +11,6 @@ use Rattle.score_draws.proofs.note_draws.Tie as tie
 abbrev score-in : tie.Start → Score
 score-in c = scoreOf (c .args .seq) (c .args .notes .now) (c .args .lane .now) (c .args .lent)
 
-note-at-requires : tie.Need-note-at-requires
-note-at-requires c κs = search needs
-
-enum-known-note : tie.Need-enum-known-note
-enum-known-note c = search needs
-
-enum-told : tie.Need-enum-told
-enum-told c = search needs
-
 returns : tie.Need-returns
 unfolding noteDraws
 returns c = rw (sym (c .before .before .note-at .ensures) ∙ c .enum-told .given .1)
@@ -45,9 +36,6 @@ at-requires c κs =
     let at = b12 in
     first-reached (score-in at) (at .pre .0) _ (at .pre .1) _ (sym (b9 .note-at .ensures) ∙ b7 .note .given .1)
 
-draw-count-requires : tie.Need-draw-count-requires
-draw-count-requires c κs = tt
-
 returns-3 : tie.Need-returns-3
 returns-3 c =
     let b6 = c .before .before .before .before .before .before in
@@ -66,12 +54,12 @@ pub note-draws-spec : {M : Type 1} → statement M
 note-draws-spec =
     tie.close
     (tie.spec
-    note-at-requires
-    enum-known-note
-    enum-told
+    (λ c κs. search needs)
+    (λ c. search needs)
+    (λ c. search needs)
     returns
     place-note-requires
     returns-2
     at-requires
-    draw-count-requires
+    (λ c κs. tt)
     returns-3)

@@ -30,12 +30,6 @@ returns c = added-over (c .before .before .before .loop .inv .0) (omega arith) (
 add-total : tie.Need-add-total Inv-loop μ-loop
 add-total c = let h = c .before .before .before .loop .inv .0 .fits in record { fits = omega arith }
 
-add-k : tie.Need-add-k Inv-loop μ-loop
-add-k c = search needs
-
-loop-less : tie.Need-loop-less Inv-loop μ-loop
-loop-less c = omega arith
-
 loop-again : tie.Need-loop-again Inv-loop μ-loop
 loop-again c = (added-more (c .before .before .before .loop .inv .0) (omega arith) (c .before .note-draws .ensures) (c .if1 .left), refl)
 
@@ -53,7 +47,7 @@ score-draws-spec =
     sub-if1
     returns
     add-total
-    add-k
-    loop-less
+    (λ c. search needs)
+    (λ c. omega arith)
     loop-again
     returns-2)

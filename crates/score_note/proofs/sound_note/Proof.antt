@@ -60,15 +60,6 @@ mix-at-requires c κs =
     let e = ap length (take-at (v .last .1 .1 .1 .1 .1 .1 .1 .1 .0) (drop (a .place .sounded) (a .note-buf .now)) (a .place .sounded) len) ∙ len in
     (rw e (p .1 .1 .1 .0), (record { most = omega (arith, e, p .1 .0 .most, p .1 .1 .1 .0) }, p .1 .1 .1 .1 .0))
 
-same-length : tie.Need-same-length
-same-length c = search needs
-
-same-length-2 : tie.Need-same-length-2
-same-length-2 c = search needs
-
-same-length-3 : tie.Need-same-length-3
-same-length-3 c = search needs
-
 returns : tie.Need-returns
 unfolding pitchAt
 returns c =
@@ -96,7 +87,7 @@ sound-note-spec =
     slice-reshare-prefix-sig
     slice-aggregate-sig-2
     mix-at-requires
-    same-length
-    same-length-2
-    same-length-3
+    (λ c. search needs)
+    (λ c. search needs)
+    (λ c. search needs)
     returns)

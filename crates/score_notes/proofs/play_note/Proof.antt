@@ -12,15 +12,6 @@ use Rattle.score_notes.proofs.play_note.Tie as tie
 abbrev score-in : tie.Start → Score
 score-in c = scoreOf (c .args .seq) (c .args .notes .now) (c .args .lane .now) (c .args .lent)
 
-note-at-requires : tie.Need-note-at-requires
-note-at-requires c κs = omega arith
-
-enum-known-note : tie.Need-enum-known-note
-enum-known-note c = search needs
-
-enum-told : tie.Need-enum-told
-enum-told c = search needs
-
 returns : tie.Need-returns
 returns c =
     let at = c .before .before .before .before .before .before .before .before in
@@ -56,15 +47,6 @@ sound-note-requires c κs =
     let string = pre .1 .1 .1 .1 in
     (fit .rate, (rw n (fit .frames), (q .0, (rw n (q .1 .0), (q .1 .1 .0, (q .1 .1 .1, (rw (n, room) (fit .buffered), rw string (fit .stringed))))))))
 
-same-length : tie.Need-same-length
-same-length c = search needs
-
-same-length-2 : tie.Need-same-length-2
-same-length-2 c = search needs
-
-same-length-3 : tie.Need-same-length-3
-same-length-3 c = search needs
-
 returns-3 : tie.Need-returns-3
 returns-3 c =
     let b6 = c .before .before .before .before .before .before in
@@ -83,14 +65,14 @@ pub play-note-spec : {M : Type 1} → statement M
 play-note-spec =
     tie.close
     (tie.spec
-    note-at-requires
-    enum-known-note
-    enum-told
+    (λ c κs. omega arith)
+    (λ c. search needs)
+    (λ c. search needs)
     returns
     place-note-requires
     returns-2
     sound-note-requires
-    same-length
-    same-length-2
-    same-length-3
+    (λ c. search needs)
+    (λ c. search needs)
+    (λ c. search needs)
     returns-3)

@@ -16,9 +16,6 @@ Inv-loop seq notes lane lent out₀ note-buf₀ string₀ count after₀ k₀ ou
 abbrev μ-loop : tie.MeasureT-loop
 μ-loop seq notes lane lent out₀ note-buf₀ string₀ count after₀ k₀ out note-buf string after k = count - k
 
-clear-requires : tie.Need-clear-requires Inv-loop μ-loop
-clear-requires c κs = tt
-
 loop-holds : tie.Need-loop-holds Inv-loop μ-loop
 loop-holds c =
     let at = c .before .before .before .before .before .before .before .before .before in
@@ -36,9 +33,6 @@ next-fits c = omega arith
 
 add-k : tie.Need-add-k Inv-loop μ-loop
 add-k c = record { fits = next-fits (c .before .before .before .before .before .before .before .before .before .before) }
-
-loop-less : tie.Need-loop-less Inv-loop μ-loop
-loop-less c = omega arith
 
 loop-again : tie.Need-loop-again Inv-loop μ-loop
 loop-again c =
@@ -67,11 +61,11 @@ play-notes-spec =
     (tie.spec
     Inv-loop
     μ-loop
-    clear-requires
+    (λ c κs. tt)
     loop-holds
     play-note-requires
     add-k
-    loop-less
+    (λ c. omega arith)
     loop-again
     same-length
     same-length-2

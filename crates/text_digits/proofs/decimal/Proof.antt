@@ -18,17 +18,8 @@ abbrev μ-loop : tie.MeasureT-loop
 returns : tie.Need-returns Inv-loop μ-loop
 returns c = decimal-none _ _ _ 0 (c .if1 .taken)
 
-shared-slice-read-first : tie.Need-shared-slice-read-first Inv-loop μ-loop
-shared-slice-read-first c = search needs
-
-add-at : tie.Need-add-at Inv-loop μ-loop
-add-at c = search needs
-
 returns-2 : tie.Need-returns-2 Inv-loop μ-loop
 returns-2 c = decimal-zero _ _ _ 0 (c .before .before .if1 .left) (c .if2 .taken)
-
-digit-requires : tie.Need-digit-requires Inv-loop μ-loop
-digit-requires c κs = search needs
 
 returns-3 : tie.Need-returns-3 Inv-loop μ-loop
 returns-3 c = decimal-bad _ _ _ _ (c .before .before .before .before .if1 .left) (c .before .before .if2 .left) (c .before .digit .ensures) (c .if3 .taken)
@@ -36,36 +27,15 @@ returns-3 c = decimal-bad _ _ _ _ (c .before .before .before .before .if1 .left)
 loop-holds : tie.Need-loop-holds Inv-loop μ-loop
 loop-holds c = (omega arith, decimal-start _ _ _ _ (c .before .before .before .before .if1 .left) (c .before .before .if2 .left) (c .before .digit .ensures) (c .if3 .left))
 
-shared-slice-read-digit : tie.Need-shared-slice-read-digit Inv-loop μ-loop
-shared-slice-read-digit c = search needs
-
-digit-requires-2 : tie.Need-digit-requires-2 Inv-loop μ-loop
-digit-requires-2 c κs = search needs
-
 returns-4 : tie.Need-returns-4 Inv-loop μ-loop
 returns-4 c =
     let b3 = c .before .before .before in
     digits-stop _ _ _ _ _ (b3 .loop-test .taken) (c .before .digit2 .ensures) (c .if4 .taken) (b3 .before .loop .inv .0) ∙ b3 .before .loop .inv .1
 
-sub-if5 : tie.Need-sub-if5 Inv-loop μ-loop
-sub-if5 c = omega arith
-
 returns-5 : tie.Need-returns-5 Inv-loop μ-loop
 returns-5 c =
     let b4 = c .before .before .before .before in
     digits-over _ _ _ (omega arith) ∙ digits-more _ _ _ _ _ (b4 .loop-test .taken) (c .before .before .digit2 .ensures) (c .before .if4 .left) ∙ b4 .before .loop .inv .1
-
-mul-v : tie.Need-mul-v Inv-loop μ-loop
-mul-v c = omega arith
-
-add-v : tie.Need-add-v Inv-loop μ-loop
-add-v c = omega arith
-
-add-at-2 : tie.Need-add-at-2 Inv-loop μ-loop
-add-at-2 c = search needs
-
-loop-less : tie.Need-loop-less Inv-loop μ-loop
-loop-less c = search needs
 
 loop-again : tie.Need-loop-again Inv-loop μ-loop
 loop-again c =
@@ -82,20 +52,20 @@ decimal-spec =
     Inv-loop
     μ-loop
     returns
-    shared-slice-read-first
-    add-at
+    (λ c. search needs)
+    (λ c. search needs)
     returns-2
-    digit-requires
+    (λ c κs. search needs)
     returns-3
     loop-holds
-    shared-slice-read-digit
-    digit-requires-2
+    (λ c. search needs)
+    (λ c κs. search needs)
     returns-4
-    sub-if5
+    (λ c. omega arith)
     returns-5
-    mul-v
-    add-v
-    add-at-2
-    loop-less
+    (λ c. omega arith)
+    (λ c. omega arith)
+    (λ c. search needs)
+    (λ c. search needs)
     loop-again
     returns-6)

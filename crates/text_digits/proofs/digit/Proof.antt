@@ -11,9 +11,6 @@ returns : tie.Need-returns
 unfolding digitOf
 returns c = if-true _ (lt-ltb _ _ (c .if1 .taken)) refl
 
-cast-result : tie.Need-cast-result
-cast-result c = search needs
-
 returns-2 : tie.Need-returns-2
 unfolding digitOf
 returns-2 c = if-false _ (le-ltb _ _ (c .before .if1 .left)) (if-true _ (lt-ltb _ _ (c .if2 .taken)) refl)
@@ -21,12 +18,6 @@ returns-2 c = if-false _ (le-ltb _ _ (c .before .if1 .left)) (if-true _ (lt-ltb 
 returns-3 : tie.Need-returns-3
 unfolding digitOf
 returns-3 c = if-false _ (le-ltb _ _ (c .before .before .if1 .left)) (if-false _ (le-ltb _ _ (c .before .if2 .left)) (if-true _ (lt-ltb _ _ (c .if3 .taken)) refl))
-
-sub-result : tie.Need-sub-result
-sub-result c = search needs
-
-cast-result-2 : tie.Need-cast-result-2
-cast-result-2 c = search needs
 
 returns-4 : tie.Need-returns-4
 unfolding digitOf
@@ -43,4 +34,4 @@ returns-5 c =
 pub digit-spec : {M : Type 1} → statement M
 digit-spec =
     tie.close
-    (tie.spec returns cast-result returns-2 returns-3 sub-result cast-result-2 returns-4 returns-5)
+    (tie.spec returns (λ c. search needs) returns-2 returns-3 (λ c. search needs) (λ c. search needs) returns-4 returns-5)

@@ -4,12 +4,6 @@ use borrow.Author.Needs.{needs}
 use Rattle.text_digits.proofs.expect.Statement.{statement}
 use Rattle.text_digits.proofs.expect.Tie as tie
 
-shared-slice-read-if2 : tie.Need-shared-slice-read-if2
-shared-slice-read-if2 c = search needs
-
-add-t9 : tie.Need-add-t9
-add-t9 c = search needs
-
 returns : tie.Need-returns
 returns c = byte-same _ _ _ (c .before .before .if1 .taken) (c .if2 .taken)
 
@@ -20,4 +14,4 @@ returns-3 : tie.Need-returns-3
 returns-3 c = byte-none _ _ _ (c .if1 .left)
 
 pub expect-spec : {M : Type 1} → statement M
-expect-spec = tie.close (tie.spec shared-slice-read-if2 add-t9 returns returns-2 returns-3)
+expect-spec = tie.close (tie.spec (λ c. search needs) (λ c. search needs) returns returns-2 returns-3)

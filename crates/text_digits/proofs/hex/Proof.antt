@@ -21,12 +21,6 @@ loop-holds c = let z : c .before .args .count - 0 ≡ c .before .args .count = o
 returns : tie.Need-returns Inv-loop μ-loop
 returns c = hex-none _ _ _ 0 (c .before .loop-test .taken) (c .if1 .taken) ∙ c .before .before .loop .inv .2
 
-shared-slice-read-digit : tie.Need-shared-slice-read-digit Inv-loop μ-loop
-shared-slice-read-digit c = search needs
-
-digit-requires : tie.Need-digit-requires Inv-loop μ-loop
-digit-requires c κs = search needs
-
 returns-2 : tie.Need-returns-2 Inv-loop μ-loop
 returns-2 c =
     let b3 = c .before .before .before in
@@ -37,15 +31,6 @@ mul-v c = let r = hex-room _ _ _ (omega arith) (c .before .before .before .befor
 
 add-v : tie.Need-add-v Inv-loop μ-loop
 add-v c = let r = hex-room _ _ _ (omega arith) (c .before .before .before .before .before .loop .inv .0) (c .if2 .left) in omega arith
-
-add-at : tie.Need-add-at Inv-loop μ-loop
-add-at c = search needs
-
-add-i : tie.Need-add-i Inv-loop μ-loop
-add-i c = search needs
-
-loop-less : tie.Need-loop-less Inv-loop μ-loop
-loop-less c = search needs
 
 loop-again : tie.Need-loop-again Inv-loop μ-loop
 loop-again c =
@@ -65,13 +50,13 @@ hex-spec =
     μ-loop
     loop-holds
     returns
-    shared-slice-read-digit
-    digit-requires
+    (λ c. search needs)
+    (λ c κs. search needs)
     returns-2
     mul-v
     add-v
-    add-at
-    add-i
-    loop-less
+    (λ c. search needs)
+    (λ c. search needs)
+    (λ c. search needs)
     loop-again
     returns-3)

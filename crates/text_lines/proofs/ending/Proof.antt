@@ -5,29 +5,11 @@ use borrow.Author.Needs.{needs}
 use Rattle.text_lines.proofs.ending.Statement.{statement}
 use Rattle.text_lines.proofs.ending.Tie as tie
 
-fields-requires : tie.Need-fields-requires
-fields-requires c κs = search needs
-
-enum-known-last : tie.Need-enum-known-last
-enum-known-last c = search needs
-
-enum-told : tie.Need-enum-told
-enum-told c = search needs
-
-same-length : tie.Need-same-length
-same-length c = search needs
-
 returns : tie.Need-returns
 unfolding ending
 returns c =
     let b4 = c .before .before .before .before in
     (rw (← (rw (c .enum-told .given .1) at (b4 .fields .ensures .0))), b4 .fields .ensures .1)
-
-expect-requires : tie.Need-expect-requires
-expect-requires c κs = search needs
-
-same-length-2 : tie.Need-same-length-2
-same-length-2 c = search needs
 
 returns-2 : tie.Need-returns-2
 unfolding ending
@@ -40,11 +22,11 @@ pub ending-spec : {M : Type 1} → statement M
 ending-spec =
     tie.close
     (tie.spec
-    fields-requires
-    enum-known-last
-    enum-told
-    same-length
+    (λ c κs. search needs)
+    (λ c. search needs)
+    (λ c. search needs)
+    (λ c. search needs)
     returns
-    expect-requires
-    same-length-2
+    (λ c κs. search needs)
+    (λ c. search needs)
     returns-2)

@@ -4,26 +4,11 @@ use borrow.Author.Needs.{needs}
 use Rattle.text_lines.proofs.line.Statement.{statement}
 use Rattle.text_lines.proofs.line.Tie as tie
 
-expect-requires : tie.Need-expect-requires
-expect-requires c κs = search needs
-
-enum-known-next : tie.Need-enum-known-next
-enum-known-next c = search needs
-
-enum-told : tie.Need-enum-told
-enum-told c = search needs
-
 returns : tie.Need-returns
 unfolding line
 returns c =
     let letter = rw (c .enum-told .given .1) at (c .before .before .expect .ensures) in
     (rw (← letter), rw (← letter))
-
-ending-requires : tie.Need-ending-requires
-ending-requires c κs = search needs
-
-same-length : tie.Need-same-length
-same-length c = search needs
 
 returns-2 : tie.Need-returns-2
 unfolding line
@@ -36,10 +21,10 @@ pub line-spec : {M : Type 1} → statement M
 line-spec =
     tie.close
     (tie.spec
-    expect-requires
-    enum-known-next
-    enum-told
+    (λ c κs. search needs)
+    (λ c. search needs)
+    (λ c. search needs)
     returns
-    ending-requires
-    same-length
+    (λ c κs. search needs)
+    (λ c. search needs)
     returns-2)

@@ -5,54 +5,9 @@ use borrow.Author.Needs.{needs}
 use Rattle.text_lines.proofs.line_e.Statement.{statement}
 use Rattle.text_lines.proofs.line_e.Tie as tie
 
-slice-aggregate-line : tie.Need-slice-aggregate-line
-slice-aggregate-line c = search needs
-
-slice-aggregate-line-2 : tie.Need-slice-aggregate-line-2
-slice-aggregate-line-2 c = search needs
-
-line-requires : tie.Need-line-requires
-line-requires c κs = search needs
-
-enum-known-next : tie.Need-enum-known-next
-enum-known-next c = search needs
-
-enum-told : tie.Need-enum-told
-enum-told c = search needs
-
 returns : tie.Need-returns
 unfolding lineE
 returns c = rw (← (rw (c .enum-told .given .1) at (c .before .before .before .line .ensures .0)))
-
-slice-aggregate-float-at : tie.Need-slice-aggregate-float-at
-slice-aggregate-float-at c = search needs
-
-float-at-requires : tie.Need-float-at-requires
-float-at-requires c κs = search needs
-
-slice-aggregate-float-at-2 : tie.Need-slice-aggregate-float-at-2
-slice-aggregate-float-at-2 c = search needs
-
-float-at-requires-2 : tie.Need-float-at-requires-2
-float-at-requires-2 c κs = search needs
-
-slice-aggregate-float-at-3 : tie.Need-slice-aggregate-float-at-3
-slice-aggregate-float-at-3 c = search needs
-
-float-at-requires-3 : tie.Need-float-at-requires-3
-float-at-requires-3 c κs = search needs
-
-slice-aggregate-float-at-4 : tie.Need-slice-aggregate-float-at-4
-slice-aggregate-float-at-4 c = search needs
-
-float-at-requires-4 : tie.Need-float-at-requires-4
-float-at-requires-4 c κs = search needs
-
-slice-aggregate-float-at-5 : tie.Need-slice-aggregate-float-at-5
-slice-aggregate-float-at-5 c = search needs
-
-float-at-requires-5 : tie.Need-float-at-requires-5
-float-at-requires-5 c κs = search needs
 
 returns-2 : tie.Need-returns-2
 returns-2 c =
@@ -68,20 +23,20 @@ pub line-e-spec : {M : Type 1} → statement M
 line-e-spec =
     tie.close
     (tie.spec
-    slice-aggregate-line
-    slice-aggregate-line-2
-    line-requires
-    enum-known-next
-    enum-told
+    (λ c. search needs)
+    (λ c. search needs)
+    (λ c κs. search needs)
+    (λ c. search needs)
+    (λ c. search needs)
     returns
-    slice-aggregate-float-at
-    float-at-requires
-    slice-aggregate-float-at-2
-    float-at-requires-2
-    slice-aggregate-float-at-3
-    float-at-requires-3
-    slice-aggregate-float-at-4
-    float-at-requires-4
-    slice-aggregate-float-at-5
-    float-at-requires-5
+    (λ c. search needs)
+    (λ c κs. search needs)
+    (λ c. search needs)
+    (λ c κs. search needs)
+    (λ c. search needs)
+    (λ c κs. search needs)
+    (λ c. search needs)
+    (λ c κs. search needs)
+    (λ c. search needs)
+    (λ c κs. search needs)
     returns-2)

@@ -4,42 +4,15 @@ use borrow.Author.Needs.{needs}
 use Rattle.text_lines.proofs.line_g.Statement.{statement}
 use Rattle.text_lines.proofs.line_g.Tie as tie
 
-expect-requires : tie.Need-expect-requires
-expect-requires c κs = search needs
-
-enum-known-a : tie.Need-enum-known-a
-enum-known-a c = search needs
-
-enum-told : tie.Need-enum-told
-enum-told c = search needs
-
 returns : tie.Need-returns
 unfolding lineG
 returns c = rw (← (rw (c .enum-told .given .1) at (c .before .before .expect .ensures)))
-
-seed-field-requires : tie.Need-seed-field-requires
-seed-field-requires c κs = search needs
-
-enum-known-seed : tie.Need-enum-known-seed
-enum-known-seed c = search needs
-
-enum-told-2 : tie.Need-enum-told-2
-enum-told-2 c = search needs
 
 returns-2 : tie.Need-returns-2
 unfolding lineG
 returns-2 c =
     let b4 = c .before .before .before .before in
     rw (← (rw (b4 .a .given .1) at (b4 .before .before .expect .ensures)), ← (rw (c .enum-told2 .given .1) at (c .before .before .seed-field .ensures)))
-
-draw-field-requires : tie.Need-draw-field-requires
-draw-field-requires c κs = search needs
-
-enum-known-draw : tie.Need-enum-known-draw
-enum-known-draw c = search needs
-
-enum-told-3 : tie.Need-enum-told-3
-enum-told-3 c = search needs
 
 returns-3 : tie.Need-returns-3
 unfolding lineG
@@ -48,15 +21,6 @@ returns-3 c =
     let b8 = b4 .before .before .before .before in
     let a = rw (b8 .a .given .1) at (b8 .before .before .expect .ensures) in
     rw (← a, ← (rw (b4 .seed .given .1) at (b4 .before .before .seed-field .ensures)), ← (rw (c .enum-told3 .given .1) at (c .before .before .draw-field .ensures)))
-
-expect-requires-2 : tie.Need-expect-requires-2
-expect-requires-2 c κs = search needs
-
-enum-known-next : tie.Need-enum-known-next
-enum-known-next c = search needs
-
-enum-told-4 : tie.Need-enum-told-4
-enum-told-4 c = search needs
 
 returns-4 : tie.Need-returns-4
 unfolding lineG
@@ -83,20 +47,20 @@ pub line-g-spec : {M : Type 1} → statement M
 line-g-spec =
     tie.close
     (tie.spec
-    expect-requires
-    enum-known-a
-    enum-told
+    (λ c κs. search needs)
+    (λ c. search needs)
+    (λ c. search needs)
     returns
-    seed-field-requires
-    enum-known-seed
-    enum-told-2
+    (λ c κs. search needs)
+    (λ c. search needs)
+    (λ c. search needs)
     returns-2
-    draw-field-requires
-    enum-known-draw
-    enum-told-3
+    (λ c κs. search needs)
+    (λ c. search needs)
+    (λ c. search needs)
     returns-3
-    expect-requires-2
-    enum-known-next
-    enum-told-4
+    (λ c κs. search needs)
+    (λ c. search needs)
+    (λ c. search needs)
     returns-4
     returns-5)

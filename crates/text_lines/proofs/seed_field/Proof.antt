@@ -4,21 +4,9 @@ use borrow.Author.Needs.{needs}
 use Rattle.text_lines.proofs.seed_field.Statement.{statement}
 use Rattle.text_lines.proofs.seed_field.Tie as tie
 
-expect-requires : tie.Need-expect-requires
-expect-requires c κs = search needs
-
-enum-known-next : tie.Need-enum-known-next
-enum-known-next c = search needs
-
-enum-told : tie.Need-enum-told
-enum-told c = search needs
-
 returns : tie.Need-returns
 unfolding seedField
 returns c = rw (← (rw (c .enum-told .given .1) at (c .before .before .expect .ensures)))
-
-hex-requires : tie.Need-hex-requires
-hex-requires c κs = search needs
 
 returns-2 : tie.Need-returns-2
 unfolding seedField
@@ -26,4 +14,4 @@ returns-2 c = rw (← (rw (c .before .before .next .given .1) at (c .before .bef
 
 pub seed-field-spec : {M : Type 1} → statement M
 seed-field-spec =
-    tie.close (tie.spec expect-requires enum-known-next enum-told returns hex-requires returns-2)
+    tie.close (tie.spec (λ c κs. search needs) (λ c. search needs) (λ c. search needs) returns (λ c κs. search needs) returns-2)

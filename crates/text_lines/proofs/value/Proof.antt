@@ -5,19 +5,13 @@ use borrow.Author.Needs.{needs}
 use Rattle.text_lines.proofs.value.Statement.{statement}
 use Rattle.text_lines.proofs.value.Tie as tie
 
-hex-requires : tie.Need-hex-requires
-hex-requires c κs = search needs
-
 returns : tie.Need-returns
 unfolding value
 returns c = rw (eq-eqb _ _ (c .before .if1 .taken)) (c .hex .ensures)
-
-decimal-requires : tie.Need-decimal-requires
-decimal-requires c κs = search needs
 
 returns-2 : tie.Need-returns-2
 unfolding value
 returns-2 c = rw (ne-eqb _ _ (c .before .if1 .left)) (c .decimal .ensures)
 
 pub value-spec : {M : Type 1} → statement M
-value-spec = tie.close (tie.spec hex-requires returns decimal-requires returns-2)
+value-spec = tie.close (tie.spec (λ c κs. search needs) returns (λ c κs. search needs) returns-2)

@@ -3,36 +3,6 @@ use borrow.Author.Needs.{needs}
 use Rattle.text_voice_line.proofs.bass_of.Statement.{statement}
 use Rattle.text_voice_line.proofs.bass_of.Tie as tie
 
-float-at-requires : tie.Need-float-at-requires
-float-at-requires c κs = search needs
-
-float-at-requires-2 : tie.Need-float-at-requires-2
-float-at-requires-2 c κs = search needs
-
-float-at-requires-3 : tie.Need-float-at-requires-3
-float-at-requires-3 c κs = search needs
-
-float-at-requires-4 : tie.Need-float-at-requires-4
-float-at-requires-4 c κs = search needs
-
-float-at-requires-5 : tie.Need-float-at-requires-5
-float-at-requires-5 c κs = search needs
-
-float-at-requires-6 : tie.Need-float-at-requires-6
-float-at-requires-6 c κs = search needs
-
-float-at-requires-7 : tie.Need-float-at-requires-7
-float-at-requires-7 c κs = search needs
-
-float-at-requires-8 : tie.Need-float-at-requires-8
-float-at-requires-8 c κs = search needs
-
-float-at-requires-9 : tie.Need-float-at-requires-9
-float-at-requires-9 c κs = search needs
-
-float-at-requires-10 : tie.Need-float-at-requires-10
-float-at-requires-10 c κs = search needs
-
 returns : tie.Need-returns
 returns c =
     let b3 = c .before .before .before in
@@ -45,14 +15,14 @@ pub bass-of-spec : {M : Type 1} → statement M
 bass-of-spec =
     tie.close
     (tie.spec
-    float-at-requires
-    float-at-requires-2
-    float-at-requires-3
-    float-at-requires-4
-    float-at-requires-5
-    float-at-requires-6
-    float-at-requires-7
-    float-at-requires-8
-    float-at-requires-9
-    float-at-requires-10
+    (λ c κs. search needs)
+    (λ c κs. search needs)
+    (λ c κs. search needs)
+    (λ c κs. search needs)
+    (λ c κs. search needs)
+    (λ c κs. search needs)
+    (λ c κs. search needs)
+    (λ c κs. search needs)
+    (λ c κs. search needs)
+    (λ c κs. search needs)
     returns)

@@ -6,27 +6,9 @@ use borrow.Author.Needs.{needs}
 use Rattle.text_voice_line.proofs.line_v.Statement.{statement}
 use Rattle.text_voice_line.proofs.line_v.Tie as tie
 
-expect-requires : tie.Need-expect-requires
-expect-requires c κs = search needs
-
-enum-known-first : tie.Need-enum-known-first
-enum-known-first c = search needs
-
-enum-told : tie.Need-enum-told
-enum-told c = search needs
-
 returns : tie.Need-returns
 unfolding lineV
 returns c = rw (← (rw (c .enum-told .given .1) at (c .before .before .expect .ensures)))
-
-field-requires : tie.Need-field-requires
-field-requires c κs = search needs
-
-enum-known-place : tie.Need-enum-known-place
-enum-known-place c = search needs
-
-enum-told-2 : tie.Need-enum-told-2
-enum-told-2 c = search needs
 
 returns-2 : tie.Need-returns-2
 unfolding lineV
@@ -40,15 +22,6 @@ cast-at c =
     let b9 = b3 .before .before .before .before .before .before in
     let h = field-small _ (b3 .before .before .first .given .0 .0) (b9 .args .s .now) (c .before .place .given .1) (b3 .field .ensures) in
     omega arith
-
-at-requires : tie.Need-at-requires
-at-requires c κs = search needs
-
-enum-known-wave : tie.Need-enum-known-wave
-enum-known-wave c = search needs
-
-enum-told-3 : tie.Need-enum-told-3
-enum-told-3 c = search needs
 
 returns-3 : tie.Need-returns-3
 unfolding lineV soundOf
@@ -66,9 +39,6 @@ cast-sound-of c =
     let h = field-small _ (b9 .first .given .0 .0) (b13 .args .s .now) (b5 .place .given .1) (b5 .before .before .field .ensures) in
     omega arith
 
-sound-of-requires : tie.Need-sound-of-requires
-sound-of-requires c κs = search needs
-
 returns-4 : tie.Need-returns-4
 unfolding lineV
 returns-4 c =
@@ -82,19 +52,19 @@ pub line-v-spec : {M : Type 1} → statement M
 line-v-spec =
     tie.close
     (tie.spec
-    expect-requires
-    enum-known-first
-    enum-told
+    (λ c κs. search needs)
+    (λ c. search needs)
+    (λ c. search needs)
     returns
-    field-requires
-    enum-known-place
-    enum-told-2
+    (λ c κs. search needs)
+    (λ c. search needs)
+    (λ c. search needs)
     returns-2
     cast-at
-    at-requires
-    enum-known-wave
-    enum-told-3
+    (λ c κs. search needs)
+    (λ c. search needs)
+    (λ c. search needs)
     returns-3
     cast-sound-of
-    sound-of-requires
+    (λ c κs. search needs)
     returns-4)

@@ -3,18 +3,6 @@ use borrow.Author.Needs.{needs}
 use Rattle.text_voice_line.proofs.pluck_of.Statement.{statement}
 use Rattle.text_voice_line.proofs.pluck_of.Tie as tie
 
-float-at-requires : tie.Need-float-at-requires
-float-at-requires c κs = search needs
-
-float-at-requires-2 : tie.Need-float-at-requires-2
-float-at-requires-2 c κs = search needs
-
-float-at-requires-3 : tie.Need-float-at-requires-3
-float-at-requires-3 c κs = search needs
-
-float-at-requires-4 : tie.Need-float-at-requires-4
-float-at-requires-4 c κs = search needs
-
 returns : tie.Need-returns
 returns c = rw (c .float-at4 .ensures, c .before .float-at3 .ensures, c .before .before .float-at2 .ensures, c .before .before .before .float-at .ensures)
 
@@ -22,8 +10,8 @@ pub pluck-of-spec : {M : Type 1} → statement M
 pluck-of-spec =
     tie.close
     (tie.spec
-    float-at-requires
-    float-at-requires-2
-    float-at-requires-3
-    float-at-requires-4
+    (λ c κs. search needs)
+    (λ c κs. search needs)
+    (λ c κs. search needs)
+    (λ c κs. search needs)
     returns)

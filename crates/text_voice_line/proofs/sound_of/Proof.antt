@@ -7,21 +7,9 @@ use borrow.Author.Needs.{needs}
 use Rattle.text_voice_line.proofs.sound_of.Statement.{statement}
 use Rattle.text_voice_line.proofs.sound_of.Tie as tie
 
-field-requires : tie.Need-field-requires
-field-requires c κs = search needs
-
-enum-known-duty : tie.Need-enum-known-duty
-enum-known-duty c = search needs
-
-enum-told : tie.Need-enum-told
-enum-told c = search needs
-
 returns : tie.Need-returns
 unfolding soundOf
 returns c = rw (← (rw (c .enum-told .given .1) at (c .before .before .field .ensures)))
-
-knob-count-requires : tie.Need-knob-count-requires
-knob-count-requires c κs = search needs
 
 array-share-prefix-kinds : tie.Need-array-share-prefix-kinds
 array-share-prefix-kinds c = knobs-few (c .before .before .before .before .before .before .args .place) (c .knob-count .ensures)
@@ -29,21 +17,12 @@ array-share-prefix-kinds c = knobs-few (c .before .before .before .before .befor
 slice-aggregate-ending : tie.Need-slice-aggregate-ending
 slice-aggregate-ending c = kinds-length (c .before .before .before .before .before .before .before .args .place) (c .before .knob-count .ensures)
 
-slice-aggregate-ending-2 : tie.Need-slice-aggregate-ending-2
-slice-aggregate-ending-2 c = search needs
-
 ending-requires : tie.Need-ending-requires
 ending-requires c κs =
     let b8 = c .before .before .before .before .before .before .before .before in
     let l = kinds-length (b8 .args .place) (c .before .before .knob-count .ensures) in
     let h = knobs-few (b8 .args .place) (c .before .before .knob-count .ensures) in
     omega arith
-
-enum-known-next : tie.Need-enum-known-next
-enum-known-next c = search needs
-
-enum-told-2 : tie.Need-enum-told-2
-enum-told-2 c = search needs
 
 returns-2 : tie.Need-returns-2
 returns-2 c =
@@ -67,18 +46,12 @@ slice-aggregate-voice-of c =
     let b14 = b8 .before .before .before .before .before .before in
     bits-length (b14 .args .place) (b8 .knob-count .ensures) (b5 .ending .last .1 .1 .1 .0) (b5 .ending .kept .1 .1 .1 .0)
 
-voice-of-requires : tie.Need-voice-of-requires
-voice-of-requires c κs = search needs
-
 cast-f32-from-bits : tie.Need-cast-f32-from-bits
 cast-f32-from-bits c =
     let b11 = c .before .before .before .before .before .before .before .before .before .before .before in
     let b15 = b11 .before .before .before .before in
     let h = field-small _ (b15 .args .at) (b15 .args .s .now) (b11 .duty .given .1) (b11 .before .before .field .ensures) in
     omega arith
-
-f32-from-bits-requires : tie.Need-f32-from-bits-requires
-f32-from-bits-requires c κs = search needs
 
 returns-3 : tie.Need-returns-3
 returns-3 c =
@@ -95,21 +68,21 @@ pub sound-of-spec : {M : Type 1} → statement M
 sound-of-spec =
     tie.close
     (tie.spec
-    field-requires
-    enum-known-duty
-    enum-told
+    (λ c κs. search needs)
+    (λ c. search needs)
+    (λ c. search needs)
     returns
-    knob-count-requires
+    (λ c κs. search needs)
     array-share-prefix-kinds
     slice-aggregate-ending
-    slice-aggregate-ending-2
+    (λ c. search needs)
     ending-requires
-    enum-known-next
-    enum-told-2
+    (λ c. search needs)
+    (λ c. search needs)
     returns-2
     array-share-prefix-bits
     slice-aggregate-voice-of
-    voice-of-requires
+    (λ c κs. search needs)
     cast-f32-from-bits
-    f32-from-bits-requires
+    (λ c κs. search needs)
     returns-3)

@@ -6,25 +6,13 @@ use borrow.Author.Needs.{needs}
 use Rattle.text_voice_line.proofs.voice_of.Statement.{statement}
 use Rattle.text_voice_line.proofs.voice_of.Tie as tie
 
-slice-aggregate-none : tie.Need-slice-aggregate-none
-slice-aggregate-none c = search needs
-
-voice-with-requires : tie.Need-voice-with-requires
-voice-with-requires c κs = search needs
-
 returns : tie.Need-returns
 unfolding voiceOf
 returns c = if-true _ (eq-eqb _ _ (c .before .if1 .taken)) (c .voice-with .ensures)
 
-voice-with-requires-2 : tie.Need-voice-with-requires-2
-voice-with-requires-2 c κs = search needs
-
 returns-2 : tie.Need-returns-2
 unfolding voiceOf
 returns-2 c = if-false _ (ne-eqb _ _ (c .before .before .if1 .left)) (if-true _ (eq-eqb _ _ (c .before .if2 .taken)) (c .voice-with2 .ensures))
-
-voice-with-requires-3 : tie.Need-voice-with-requires-3
-voice-with-requires-3 c κs = search needs
 
 returns-3 : tie.Need-returns-3
 unfolding voiceOf
@@ -32,18 +20,12 @@ returns-3 c =
     let b3 = c .before .before .before in
     if-false _ (ne-eqb _ _ (b3 .if1 .left)) (if-false _ (ne-eqb _ _ (c .before .before .if2 .left)) (if-true _ (eq-eqb _ _ (c .before .if3 .taken)) (c .voice-with3 .ensures)))
 
-voice-with-requires-4 : tie.Need-voice-with-requires-4
-voice-with-requires-4 c κs = search needs
-
 returns-4 : tie.Need-returns-4
 unfolding voiceOf
 returns-4 c =
     let b3 = c .before .before .before in
     if-false _ (ne-eqb _ _ (b3 .before .if1 .left))
     (if-false _ (ne-eqb _ _ (b3 .if2 .left)) (if-false _ (ne-eqb _ _ (c .before .before .if3 .left)) (if-true _ (eq-eqb _ _ (c .before .if4 .taken)) (c .voice-with4 .ensures))))
-
-voice-with-requires-5 : tie.Need-voice-with-requires-5
-voice-with-requires-5 c κs = search needs
 
 returns-5 : tie.Need-returns-5
 unfolding voiceOf
@@ -56,14 +38,14 @@ pub voice-of-spec : {M : Type 1} → statement M
 voice-of-spec =
     tie.close
     (tie.spec
-    slice-aggregate-none
-    voice-with-requires
+    (λ c. search needs)
+    (λ c κs. search needs)
     returns
-    voice-with-requires-2
+    (λ c κs. search needs)
     returns-2
-    voice-with-requires-3
+    (λ c κs. search needs)
     returns-3
-    voice-with-requires-4
+    (λ c κs. search needs)
     returns-4
-    voice-with-requires-5
+    (λ c κs. search needs)
     returns-5)

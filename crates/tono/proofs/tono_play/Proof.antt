@@ -19,23 +19,11 @@ use Rattle.tono.proofs.tono_play.Tie as tie
 length-fits : (c : tie.Start) (n : ℕ) → n ≤ length (c .args .reply .now) → SFits w64 (pos n)
 length-fits c n h = sfits-of (omega arith)
 
-play-text-requires : tie.Need-play-text-requires
-play-text-requires c κs = search needs
-
-enum-known-length : tie.Need-enum-known-length
-enum-known-length c = search needs
-
 cast-result : tie.Need-cast-result
 cast-result c =
     let b5 = c .before .before .before .before .before in
     let within = length-within (b5 .play-text .ensures) _ (c .before .length .given .1) in
     sfits-of (omega (arith, within))
-
-enum-told : tie.Need-enum-told
-enum-told c = search needs
-
-same-length : tie.Need-same-length
-same-length c = search needs
 
 returns : tie.Need-returns
 returns c =
@@ -44,9 +32,6 @@ returns c =
     let fits = length-fits (b5 .before .before .before .before) _ (length-within (b5 .play-text .ensures) _ told) in
     returned (Listing _) (b5 .play-text .ensures) told (toZ-ofZ fits)
 
-same-length-2 : tie.Need-same-length-2
-same-length-2 c = search needs
-
 returns-2 : tie.Need-returns-2
 returns-2 c = returned Short (c .before .before .before .before .play-text .ensures) (c .enum-told .given .1) refl
 
@@ -54,11 +39,11 @@ pub tono-play-spec : {M : Type 1} → statement M
 tono-play-spec =
     tie.close
     (tie.spec
-    play-text-requires
-    enum-known-length
+    (λ c κs. search needs)
+    (λ c. search needs)
     cast-result
-    enum-told
-    same-length
+    (λ c. search needs)
+    (λ c. search needs)
     returns
-    same-length-2
+    (λ c. search needs)
     returns-2)

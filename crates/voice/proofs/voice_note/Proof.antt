@@ -14,9 +14,6 @@ use Rattle.voice.proofs.voice_note.Tie as tie
 undrawn : (c : tie.Start) → c .args .rng .0 ≡ stateAfter (c .args .rng .0) 0
 undrawn c = sym (state-none _ (omega arith))
 
-nearest-u32-to-f32-requires : tie.Need-nearest-u32-to-f32-requires
-nearest-u32-to-f32-requires c κs = tt
-
 enum-told : tie.Need-enum-told
 enum-told c = c .match .keys1
 
@@ -43,9 +40,6 @@ sine-requires c κs = c .before .before .before .before .before .before .before 
 
 enum-told-5 : tie.Need-enum-told-5
 enum-told-5 c = c .match .keys5
-
-noise-requires : tie.Need-noise-requires
-noise-requires c κs = tt
 
 same-length : tie.Need-same-length
 same-length c = c .before .before .noise .kept .1 .0
@@ -282,7 +276,7 @@ pub voice-note-spec : {M : Type 1} → statement M
 voice-note-spec =
     tie.close
     (tie.spec
-    nearest-u32-to-f32-requires
+    (λ c κs. tt)
     enum-told
     square-requires
     enum-told-2
@@ -292,7 +286,7 @@ voice-note-spec =
     enum-told-4
     sine-requires
     enum-told-5
-    noise-requires
+    (λ c κs. tt)
     same-length
     returns
     enum-told-6

@@ -4,18 +4,6 @@ use borrow.Author.Needs.{needs}
 use Rattle.voice_bell.proofs.bell_at.Statement.{statement}
 use Rattle.voice_bell.proofs.bell_at.Tie as tie
 
-phase-step-requires : tie.Need-phase-step-requires
-phase-step-requires c κs = search needs
-
-frame-time-requires : tie.Need-frame-time-requires
-frame-time-requires c κs = search needs
-
-bell-sum-requires : tie.Need-bell-sum-requires
-bell-sum-requires c κs = search needs
-
-bell-next-requires : tie.Need-bell-next-requires
-bell-next-requires c κs = search needs
-
 returns : tie.Need-returns
 unfolding bellAt
 returns c = rw (c .bell-next .ensures, c .before .bell-sum .ensures, c .before .before .frame-time .ensures, c .before .before .before .phase-step .ensures)
@@ -24,8 +12,8 @@ pub bell-at-spec : {M : Type 1} → statement M
 bell-at-spec =
     tie.close
     (tie.spec
-    phase-step-requires
-    frame-time-requires
-    bell-sum-requires
-    bell-next-requires
+    (λ c κs. search needs)
+    (λ c κs. search needs)
+    (λ c κs. search needs)
+    (λ c κs. search needs)
     returns)

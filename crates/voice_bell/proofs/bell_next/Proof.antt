@@ -4,24 +4,6 @@ use borrow.Author.Needs.{needs}
 use Rattle.voice_bell.proofs.bell_next.Statement.{statement}
 use Rattle.voice_bell.proofs.bell_next.Tie as tie
 
-wrap-requires : tie.Need-wrap-requires
-wrap-requires c κs = search needs
-
-wrap-requires-2 : tie.Need-wrap-requires-2
-wrap-requires-2 c κs = search needs
-
-wrap-requires-3 : tie.Need-wrap-requires-3
-wrap-requires-3 c κs = search needs
-
-wrap-requires-4 : tie.Need-wrap-requires-4
-wrap-requires-4 c κs = search needs
-
-wrap-requires-5 : tie.Need-wrap-requires-5
-wrap-requires-5 c κs = search needs
-
-wrap-requires-6 : tie.Need-wrap-requires-6
-wrap-requires-6 c κs = search needs
-
 returns : tie.Need-returns
 unfolding bellNext
 returns c =
@@ -38,10 +20,10 @@ pub bell-next-spec : {M : Type 1} → statement M
 bell-next-spec =
     tie.close
     (tie.spec
-    wrap-requires
-    wrap-requires-2
-    wrap-requires-3
-    wrap-requires-4
-    wrap-requires-5
-    wrap-requires-6
+    (λ c κs. search needs)
+    (λ c κs. search needs)
+    (λ c κs. search needs)
+    (λ c κs. search needs)
+    (λ c κs. search needs)
+    (λ c κs. search needs)
     returns)

@@ -4,27 +4,6 @@ use borrow.Author.Needs.{needs}
 use Rattle.voice_bell.proofs.bell_sum.Statement.{statement}
 use Rattle.voice_bell.proofs.bell_sum.Tie as tie
 
-partial-requires : tie.Need-partial-requires
-partial-requires c κs = search needs
-
-partial-requires-2 : tie.Need-partial-requires-2
-partial-requires-2 c κs = search needs
-
-partial-requires-3 : tie.Need-partial-requires-3
-partial-requires-3 c κs = search needs
-
-partial-requires-4 : tie.Need-partial-requires-4
-partial-requires-4 c κs = search needs
-
-partial-requires-5 : tie.Need-partial-requires-5
-partial-requires-5 c κs = search needs
-
-exp-requires : tie.Need-exp-requires
-exp-requires c κs = search needs
-
-sin-requires : tie.Need-sin-requires
-sin-requires c κs = search needs
-
 returns : tie.Need-returns
 unfolding bellSum
 returns c =
@@ -42,11 +21,11 @@ pub bell-sum-spec : {M : Type 1} → statement M
 bell-sum-spec =
     tie.close
     (tie.spec
-    partial-requires
-    partial-requires-2
-    partial-requires-3
-    partial-requires-4
-    partial-requires-5
-    exp-requires
-    sin-requires
+    (λ c κs. search needs)
+    (λ c κs. search needs)
+    (λ c κs. search needs)
+    (λ c κs. search needs)
+    (λ c κs. search needs)
+    (λ c κs. search needs)
+    (λ c κs. search needs)
     returns)

@@ -4,15 +4,6 @@ use borrow.Author.Needs.{needs}
 use Rattle.voice_cowbell.proofs.cowbell_at.Statement.{statement}
 use Rattle.voice_cowbell.proofs.cowbell_at.Tie as tie
 
-frame-time-requires : tie.Need-frame-time-requires
-frame-time-requires c κs = search needs
-
-max-f32-requires : tie.Need-max-f32-requires
-max-f32-requires c κs = search needs
-
-cowbell-sample-requires : tie.Need-cowbell-sample-requires
-cowbell-sample-requires c κs = search needs
-
 returns : tie.Need-returns
 unfolding cowbellAt
 returns c = rw (c .cowbell-sample .ensures, c .before .max-f32 .ensures, c .before .before .frame-time .ensures)
@@ -20,4 +11,4 @@ returns c = rw (c .cowbell-sample .ensures, c .before .max-f32 .ensures, c .befo
 pub cowbell-at-spec : {M : Type 1} → statement M
 cowbell-at-spec =
     tie.close
-    (tie.spec frame-time-requires max-f32-requires cowbell-sample-requires returns)
+    (tie.spec (λ c κs. search needs) (λ c κs. search needs) (λ c κs. search needs) returns)

@@ -4,21 +4,6 @@ use borrow.Author.Needs.{needs}
 use Rattle.voice_cowbell.proofs.cowbell_sample.Statement.{statement}
 use Rattle.voice_cowbell.proofs.cowbell_sample.Tie as tie
 
-sin-requires : tie.Need-sin-requires
-sin-requires c κs = search needs
-
-tanh-requires : tie.Need-tanh-requires
-tanh-requires c κs = search needs
-
-sin-requires-2 : tie.Need-sin-requires-2
-sin-requires-2 c κs = search needs
-
-tanh-requires-2 : tie.Need-tanh-requires-2
-tanh-requires-2 c κs = search needs
-
-exp-requires : tie.Need-exp-requires
-exp-requires c κs = search needs
-
 returns : tie.Need-returns
 unfolding cowbellOf
 returns c = rw (c .exp .ensures, c .before .tanh2 .ensures, c .before .before .sin2 .ensures, c .before .before .before .tanh .ensures, c .before .before .before .before .sin .ensures)
@@ -26,4 +11,4 @@ returns c = rw (c .exp .ensures, c .before .tanh2 .ensures, c .before .before .s
 pub cowbell-sample-spec : {M : Type 1} → statement M
 cowbell-sample-spec =
     tie.close
-    (tie.spec sin-requires tanh-requires sin-requires-2 tanh-requires-2 exp-requires returns)
+    (tie.spec (λ c κs. search needs) (λ c κs. search needs) (λ c κs. search needs) (λ c κs. search needs) (λ c κs. search needs) returns)

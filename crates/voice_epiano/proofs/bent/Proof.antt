@@ -4,15 +4,9 @@ use borrow.Author.Needs.{needs}
 use Rattle.voice_epiano.proofs.bent.Statement.{statement}
 use Rattle.voice_epiano.proofs.bent.Tie as tie
 
-sin-requires : tie.Need-sin-requires
-sin-requires c κs = search needs
-
-sin-requires-2 : tie.Need-sin-requires-2
-sin-requires-2 c κs = search needs
-
 returns : tie.Need-returns
 unfolding bentOf
 returns c = rw (c .sin2 .ensures, c .before .sin .ensures)
 
 pub bent-spec : {M : Type 1} → statement M
-bent-spec = tie.close (tie.spec sin-requires sin-requires-2 returns)
+bent-spec = tie.close (tie.spec (λ c κs. search needs) (λ c κs. search needs) returns)

@@ -3,35 +3,8 @@ use Rattle.voice_epiano.proofs.Epiano.{epiano-frame}
 use Rattle.voice_epiano.proofs.epiano_at.Statement.{statement}
 use Rattle.voice_epiano.proofs.epiano_at.Tie as tie
 
-phase-step-requires : tie.Need-phase-step-requires
-phase-step-requires c κs = tt
-
 frame-time-requires : tie.Need-frame-time-requires
 frame-time-requires c κs = c .before .pre
-
-exp-requires : tie.Need-exp-requires
-exp-requires c κs = tt
-
-exp-requires-2 : tie.Need-exp-requires-2
-exp-requires-2 c κs = tt
-
-bent-requires : tie.Need-bent-requires
-bent-requires c κs = tt
-
-bent-requires-2 : tie.Need-bent-requires-2
-bent-requires-2 c κs = tt
-
-wrap-requires : tie.Need-wrap-requires
-wrap-requires c κs = tt
-
-wrap-requires-2 : tie.Need-wrap-requires-2
-wrap-requires-2 c κs = tt
-
-wrap-requires-3 : tie.Need-wrap-requires-3
-wrap-requires-3 c κs = tt
-
-exp-requires-3 : tie.Need-exp-requires-3
-exp-requires-3 c κs = tt
 
 returns : tie.Need-returns
 returns c =
@@ -51,14 +24,14 @@ pub epiano-at-spec : {M : Type 1} → statement M
 epiano-at-spec =
     tie.close
     (tie.spec
-    phase-step-requires
+    (λ c κs. tt)
     frame-time-requires
-    exp-requires
-    exp-requires-2
-    bent-requires
-    bent-requires-2
-    wrap-requires
-    wrap-requires-2
-    wrap-requires-3
-    exp-requires-3
+    (λ c κs. tt)
+    (λ c κs. tt)
+    (λ c κs. tt)
+    (λ c κs. tt)
+    (λ c κs. tt)
+    (λ c κs. tt)
+    (λ c κs. tt)
+    (λ c κs. tt)
     returns)

@@ -4,15 +4,9 @@ use borrow.Author.Needs.{needs}
 use Rattle.voice_epiano.proofs.epiano_decay.Statement.{statement}
 use Rattle.voice_epiano.proofs.epiano_decay.Tie as tie
 
-max-f32-requires : tie.Need-max-f32-requires
-max-f32-requires c κs = search needs
-
-clamp-f32-requires : tie.Need-clamp-f32-requires
-clamp-f32-requires c κs = search needs
-
 returns : tie.Need-returns
 unfolding epianoDecay
 returns c = rw (c .clamp-f32 .ensures, c .before .max-f32 .ensures)
 
 pub epiano-decay-spec : {M : Type 1} → statement M
-epiano-decay-spec = tie.close (tie.spec max-f32-requires clamp-f32-requires returns)
+epiano-decay-spec = tie.close (tie.spec (λ c κs. search needs) (λ c κs. search needs) returns)

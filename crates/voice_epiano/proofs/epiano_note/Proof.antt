@@ -23,9 +23,6 @@ returns c = filled-frames filled-none (omega arith) (omega arith)
 at-requires : tie.Need-at-requires Inv-loop μ-loop
 at-requires c κs = reaches-less (c .before .before .before .args .pitch) _ _ _ (c .before .before .before .pre .0) (omega arith)
 
-epiano-decay-requires : tie.Need-epiano-decay-requires Inv-loop μ-loop
-epiano-decay-requires c κs = search needs
-
 loop-holds : tie.Need-loop-holds Inv-loop μ-loop
 loop-holds c = filled-none
 
@@ -37,14 +34,8 @@ at-requires-2 c κs =
 epiano-at-requires : tie.Need-epiano-at-requires Inv-loop μ-loop
 epiano-at-requires c κs = record { most = omega (arith, filled-length (c .before .before .loop .inv), c .before .before .before .before .before .before .before .before .pre .1 .most) }
 
-mul-out : tie.Need-mul-out Inv-loop μ-loop
-mul-out c = search needs
-
 slice-write-out : tie.Need-slice-write-out Inv-loop μ-loop
 slice-write-out c = omega (arith, filled-length (c .before .before .before .loop .inv))
-
-add-i : tie.Need-add-i Inv-loop μ-loop
-add-i c = search needs
 
 loop-less : tie.Need-loop-less Inv-loop μ-loop
 loop-less c = omega (arith, filled-length (c .before .before .before .before .loop .inv))
@@ -71,13 +62,13 @@ epiano-note-spec =
     μ-loop
     returns
     at-requires
-    epiano-decay-requires
+    (λ c κs. search needs)
     loop-holds
     at-requires-2
     epiano-at-requires
-    mul-out
+    (λ c. search needs)
     slice-write-out
-    add-i
+    (λ c. search needs)
     loop-less
     loop-again
     same-length

@@ -6,27 +6,6 @@ use Rattle.voice_flute.proofs.flute_at.Tie as tie
 frame-time-requires : tie.Need-frame-time-requires
 frame-time-requires c κs = c .pre
 
-exp-requires : tie.Need-exp-requires
-exp-requires c κs = tt
-
-sin-requires : tie.Need-sin-requires
-sin-requires c κs = tt
-
-wrap-requires : tie.Need-wrap-requires
-wrap-requires c κs = tt
-
-max-f32-requires : tie.Need-max-f32-requires
-max-f32-requires c κs = tt
-
-wrap-requires-2 : tie.Need-wrap-requires-2
-wrap-requires-2 c κs = tt
-
-bi-requires : tie.Need-bi-requires
-bi-requires c κs = tt
-
-sin-requires-2 : tie.Need-sin-requires-2
-sin-requires-2 c κs = tt
-
 returns : tie.Need-returns
 returns c =
     flute-frame _ _ _ _ _ _
@@ -45,11 +24,11 @@ flute-at-spec =
     tie.close
     (tie.spec
     frame-time-requires
-    exp-requires
-    sin-requires
-    wrap-requires
-    max-f32-requires
-    wrap-requires-2
-    bi-requires
-    sin-requires-2
+    (λ c κs. tt)
+    (λ c κs. tt)
+    (λ c κs. tt)
+    (λ c κs. tt)
+    (λ c κs. tt)
+    (λ c κs. tt)
+    (λ c κs. tt)
     returns)

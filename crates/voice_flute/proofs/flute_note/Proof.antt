@@ -19,9 +19,6 @@ Inv-loop pitch lane gain srf out₀ lp-a s₀ i₀ out s i = Filled (λ i. flute
 abbrev μ-loop : tie.MeasureT-loop
 μ-loop pitch lane gain srf out₀ lp-a s₀ i₀ out s i = length out₀ - i
 
-exp-requires : tie.Need-exp-requires Inv-loop μ-loop
-exp-requires c κs = search needs
-
 loop-holds : tie.Need-loop-holds Inv-loop μ-loop
 loop-holds c = filled-none
 
@@ -31,14 +28,8 @@ at-requires c κs = reaches-less (c .before .before .before .before .before .arg
 flute-at-requires : tie.Need-flute-at-requires Inv-loop μ-loop
 flute-at-requires c κs = record { most = omega (arith, filled-length (c .before .before .loop .inv), c .before .before .before .before .before .before .pre .1 .most) }
 
-mul-out : tie.Need-mul-out Inv-loop μ-loop
-mul-out c = search needs
-
 slice-write-out : tie.Need-slice-write-out Inv-loop μ-loop
 slice-write-out c = omega (arith, filled-length (c .before .before .before .loop .inv))
-
-add-i : tie.Need-add-i Inv-loop μ-loop
-add-i c = search needs
 
 loop-less : tie.Need-loop-less Inv-loop μ-loop
 loop-less c = omega (arith, filled-length (c .before .before .before .before .loop .inv))
@@ -65,13 +56,13 @@ flute-note-spec =
     (tie.spec
     Inv-loop
     μ-loop
-    exp-requires
+    (λ c κs. search needs)
     loop-holds
     at-requires
     flute-at-requires
-    mul-out
+    (λ c. search needs)
     slice-write-out
-    add-i
+    (λ c. search needs)
     loop-less
     loop-again
     same-length

@@ -16,9 +16,6 @@ Inv-loop pitch lane srf out₀ lp-a s₀ i₀ out s i = Filled (λ i. stringsAt 
 abbrev μ-loop : tie.MeasureT-loop
 μ-loop pitch lane srf out₀ lp-a s₀ i₀ out s i = length out₀ - i
 
-exp-requires : tie.Need-exp-requires Inv-loop μ-loop
-exp-requires c κs = search needs
-
 loop-holds : tie.Need-loop-holds Inv-loop μ-loop
 loop-holds c = filled-none
 
@@ -28,14 +25,8 @@ at-requires c κs = reaches-less (c .before .before .before .before .before .arg
 strings-at-requires : tie.Need-strings-at-requires Inv-loop μ-loop
 strings-at-requires c κs = record { most = omega (arith, filled-length (c .before .before .loop .inv), c .before .before .before .before .before .before .pre .1 .most) }
 
-mul-out : tie.Need-mul-out Inv-loop μ-loop
-mul-out c = search needs
-
 slice-write-out : tie.Need-slice-write-out Inv-loop μ-loop
 slice-write-out c = omega (arith, filled-length (c .before .before .before .loop .inv))
-
-add-i : tie.Need-add-i Inv-loop μ-loop
-add-i c = search needs
 
 loop-less : tie.Need-loop-less Inv-loop μ-loop
 loop-less c = omega (arith, filled-length (c .before .before .before .before .loop .inv))
@@ -58,13 +49,13 @@ strings-note-spec =
     (tie.spec
     Inv-loop
     μ-loop
-    exp-requires
+    (λ c κs. search needs)
     loop-holds
     at-requires
     strings-at-requires
-    mul-out
+    (λ c. search needs)
     slice-write-out
-    add-i
+    (λ c. search needs)
     loop-less
     loop-again
     same-length

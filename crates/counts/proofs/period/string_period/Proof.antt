@@ -31,18 +31,6 @@ rounded c =
       c .before .before .before .nearest-u32-to-f32 .ensures,
     )
 
-nearest-u32-to-f32-requires : tie.Need-nearest-u32-to-f32-requires
-nearest-u32-to-f32-requires c κs = search needs
-
-clamp-f32-requires : tie.Need-clamp-f32-requires
-clamp-f32-requires c κs = search needs
-
-round-f32-requires : tie.Need-round-f32-requires
-round-f32-requires c κs = search needs
-
-f32-to-usize-requires : tie.Need-f32-to-usize-requires
-f32-to-usize-requires c κs = search needs
-
 returns : tie.Need-returns
 unfolding periodOf
 returns c = low _ (c .if1 .taken) ∙ ap (λ (k : ℕ). max k 2) (rounded (c .before))
@@ -55,9 +43,9 @@ pub string-period-spec : {M : Type 1} → statement M
 string-period-spec =
     tie.close
     (tie.spec
-    nearest-u32-to-f32-requires
-    clamp-f32-requires
-    round-f32-requires
-    f32-to-usize-requires
+    (λ c κs. search needs)
+    (λ c κs. search needs)
+    (λ c κs. search needs)
+    (λ c κs. search needs)
     returns
     returns-2)

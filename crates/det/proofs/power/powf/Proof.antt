@@ -14,9 +14,6 @@ returns-2 : tie.Need-returns-2
 unfolding powf64
 returns-2 c = if-false _ (c .before .before .if1 .left) (if-true _ (c .before .if2 .taken) (if-true _ (c .if3 .taken) refl))
 
-infinity-requires : tie.Need-infinity-requires
-infinity-requires c κs = search needs
-
 returns-3 : tie.Need-returns-3
 unfolding powf64
 returns-3 c =
@@ -24,21 +21,12 @@ returns-3 c =
     (if-true _ (c .before .before .if2 .taken)
     (if-false _ (c .before .if3 .left) (c .infinity .ensures)))
 
-not-a-number-requires : tie.Need-not-a-number-requires
-not-a-number-requires c κs = search needs
-
 returns-4 : tie.Need-returns-4
 unfolding powf64
 returns-4 c =
     if-false _ (c .before .before .before .if1 .left)
     (if-false _ (c .before .before .if2 .left)
     (if-true _ (c .before .if4 .taken) (c .not-a-number .ensures)))
-
-ln-requires : tie.Need-ln-requires
-ln-requires c κs = search needs
-
-exp-requires : tie.Need-exp-requires
-exp-requires c κs = search needs
 
 returns-5 : tie.Need-returns-5
 unfolding powf64
@@ -54,10 +42,10 @@ powf-spec =
     (tie.spec
     returns
     returns-2
-    infinity-requires
+    (λ c κs. search needs)
     returns-3
-    not-a-number-requires
+    (λ c κs. search needs)
     returns-4
-    ln-requires
-    exp-requires
+    (λ c κs. search needs)
+    (λ c κs. search needs)
     returns-5)

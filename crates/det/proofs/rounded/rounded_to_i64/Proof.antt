@@ -13,12 +13,6 @@ float-to-int-result c = cast-in (c .before .before .before .args .k) (near (c .b
 returns : tie.Need-returns
 returns c = cast-is (c .before .before .before .args .k) (near (c .before))
 
-f64-to-i64-requires : tie.Need-f64-to-i64-requires
-f64-to-i64-requires c κs = search needs
-
-returns-2 : tie.Need-returns-2
-returns-2 c = search needs
-
 pub rounded-to-i64-spec : {M : Type 1} → statement M
 rounded-to-i64-spec =
-    tie.close (tie.spec float-to-int-result returns f64-to-i64-requires returns-2)
+    tie.close (tie.spec float-to-int-result returns (λ c κs. search needs) (λ c. search needs))

@@ -25,18 +25,9 @@ frames :
     c .f32-to-usize .result ≡ toUnsigned 64 (minOf (f32 (a .len) ⊗ a .step-dur) (f32 (a .n)))
 frames c = rw (c .f32-to-usize .ensures, c .before .min-f32 .ensures, c .before .before .before .nearest-u32-to-f32 .ensures)
 
-nearest-u32-to-f32-requires : tie.Need-nearest-u32-to-f32-requires
-nearest-u32-to-f32-requires c κs = search needs
-
 int-to-float-min-f32 : tie.Need-int-to-float-min-f32
 unfolding inFloat
 int-to-float-min-f32 c = le→leb _ _ (c .before .before .pre .most)
-
-min-f32-requires : tie.Need-min-f32-requires
-min-f32-requires c κs = search needs
-
-f32-to-usize-requires : tie.Need-f32-to-usize-requires
-f32-to-usize-requires c κs = search needs
 
 returns : tie.Need-returns
 unfolding lengthOf
@@ -50,9 +41,9 @@ pub note-len-spec : {M : Type 1} → statement M
 note-len-spec =
     tie.close
     (tie.spec
-    nearest-u32-to-f32-requires
+    (λ c κs. search needs)
     int-to-float-min-f32
-    min-f32-requires
-    f32-to-usize-requires
+    (λ c κs. search needs)
+    (λ c κs. search needs)
     returns
     returns-2)

@@ -6,9 +6,6 @@ use Rattle.groove.specs.Timing.{humanDelay, humanGain}
 use Rattle.groove.proofs.timing.humanized.Statement.{statement}
 use Rattle.groove.proofs.timing.humanized.Tie as tie
 
-humanize-draws-requires : tie.Need-humanize-draws-requires
-humanize-draws-requires c κs = search needs
-
 returns : tie.Need-returns
 unfolding humanDelay humanGain
 returns c =
@@ -21,4 +18,4 @@ unfolding humanDelay humanGain
 returns-2 c = (if-false _ (c .if1 .left) refl, if-false _ (c .if1 .left) refl)
 
 pub humanized-spec : {M : Type 1} → statement M
-humanized-spec = tie.close (tie.spec humanize-draws-requires returns returns-2)
+humanized-spec = tie.close (tie.spec (λ c κs. search needs) returns returns-2)

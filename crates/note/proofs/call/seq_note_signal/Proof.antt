@@ -8,26 +8,11 @@ use borrow.Author.Needs.{needs}
 use Rattle.note.proofs.call.seq_note_signal.Statement.{statement}
 use Rattle.note.proofs.call.seq_note_signal.Tie as tie
 
-note-call-verdict-requires : tie.Need-note-call-verdict-requires
-note-call-verdict-requires c κs = search needs
-
-enum-known-verdict : tie.Need-enum-known-verdict
-enum-known-verdict c = search needs
-
-refused-requires : tie.Need-refused-requires
-refused-requires c κs = search needs
-
 returns : tie.Need-returns
 returns c = refused-note _ (sym (c .before .before .verdict .given .1) ∙ c .before .before .before .before .note-call-verdict .ensures) (c .refused .ensures) refl refl
 
-enum-told : tie.Need-enum-told
-enum-told c = search needs
-
 shared-slice-read-draw-count : tie.Need-shared-slice-read-draw-count
 shared-slice-read-draw-count c = (accepted-note-facts _ (sym (sym (c .before .enum-told .given .1) ∙ c .before .before .before .note-call-verdict .ensures))) .some
-
-draw-count-requires : tie.Need-draw-count-requires
-draw-count-requires c κs = tt
 
 voice-note-requires : tie.Need-voice-note-requires
 voice-note-requires c κs =
@@ -55,12 +40,6 @@ voice-note-requires c κs =
       ),
     )
 
-same-length : tie.Need-same-length
-same-length c = search needs
-
-same-length-2 : tie.Need-same-length-2
-same-length-2 c = search needs
-
 returns-2 : tie.Need-returns-2
 returns-2 c =
     let b4 = c .before .before .before .before in
@@ -75,14 +54,14 @@ pub seq-note-signal-spec : {M : Type 1} → statement M
 seq-note-signal-spec =
     tie.close
     (tie.spec
-    note-call-verdict-requires
-    enum-known-verdict
-    refused-requires
+    (λ c κs. search needs)
+    (λ c. search needs)
+    (λ c κs. search needs)
     returns
-    enum-told
+    (λ c. search needs)
     shared-slice-read-draw-count
-    draw-count-requires
+    (λ c κs. tt)
     voice-note-requires
-    same-length
-    same-length-2
+    (λ c. search needs)
+    (λ c. search needs)
     returns-2)

@@ -3,12 +3,6 @@ use borrow.Author.Needs.{needs}
 use Rattle.outcome.proofs.verdict.or_else.Statement.{statement}
 use Rattle.outcome.proofs.verdict.or_else.Tie as tie
 
-enum-known-found : tie.Need-enum-known-found
-enum-known-found c = search needs
-
-enum-told : tie.Need-enum-told
-enum-told c = search needs
-
 returns : tie.Need-returns
 returns c = rw (c .before .found .given .1)
 
@@ -19,4 +13,4 @@ returns-3 : tie.Need-returns-3
 returns-3 c = rw (c .before .enum-told .given .1, c .if1 .left)
 
 pub or-else-spec : {M : Type 1} → statement M
-or-else-spec = tie.close (tie.spec enum-known-found enum-told returns returns-2 returns-3)
+or-else-spec = tie.close (tie.spec (λ c. search needs) (λ c. search needs) returns returns-2 returns-3)

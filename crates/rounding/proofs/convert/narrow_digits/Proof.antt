@@ -53,12 +53,6 @@ shl-digits c = let h = at62 (c .args .q) (c .pre .0) (c .pre .1) .most in let l 
 add-if1 : tie.Need-add-if1
 add-if1 c = let h = at62 (c .args .q) (c .pre .0) (c .pre .1) .most in record { fits = omega arith }
 
-add-pack-f32 : tie.Need-add-pack-f32
-add-pack-f32 c = search needs
-
-sub-pack-f32 : tie.Need-sub-pack-f32
-sub-pack-f32 c = search needs
-
 round-shift-requires : tie.Need-round-shift-requires
 round-shift-requires c κs = (lit< tt, digits-lt (c .before .args .q) (c .before .pre .0) (c .before .pre .1))
 
@@ -84,9 +78,6 @@ returns c =
 add-d : tie.Need-add-d
 add-d c = let h = at62 (c .before .args .q) (c .before .pre .0) (c .before .pre .1) .most in record { fits = omega arith }
 
-sub-d : tie.Need-sub-d
-sub-d c = search needs
-
 round-shift-requires-2 : tie.Need-round-shift-requires-2
 round-shift-requires-2 c κs = (omega arith, digits-lt (c .before .before .args .q) (c .before .before .pre .0) (c .before .before .pre .1))
 
@@ -111,9 +102,6 @@ returns-2 c =
     ∙ ap (λ (n : ℕ). units binary32 (a .sign) n 0) (c .before .round-shift2 .ensures ∙ ap (λ (n : ℕ). closest n (2 ^ d)) (digits-are (a .q) (p .0) (p .1)))
     ∙ sym (rounded (a .sign) (a .q) (a .k) (shift (a .q)) d 0 (meet-low (a .k) (shift (a .q)) l) (h .high) (far (a .k) (shift (a .q)) l) (λ (z : 0 < 0). absurd (lt-irrefl 0 z)))
 
-pack-f32-requires-3 : tie.Need-pack-f32-requires-3
-pack-f32-requires-3 c κs = search needs
-
 returns-3 : tie.Need-returns-3
 returns-3 c =
     let a = c .before .before .before .args in
@@ -133,15 +121,15 @@ narrow-digits-spec =
     cast-z
     shl-digits
     add-if1
-    add-pack-f32
-    sub-pack-f32
+    (λ c. search needs)
+    (λ c. search needs)
     round-shift-requires
     pack-f32-requires
     returns
     add-d
-    sub-d
+    (λ c. search needs)
     round-shift-requires-2
     pack-f32-requires-2
     returns-2
-    pack-f32-requires-3
+    (λ c κs. search needs)
     returns-3)

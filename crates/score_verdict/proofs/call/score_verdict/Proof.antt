@@ -9,22 +9,10 @@ use Rattle.score_verdict.proofs.call.score_verdict.Tie as tie
 abbrev score-in : tie.Start → Score
 score-in c = scoreOf (c .args .seq) (c .args .notes .now) (c .args .lane .now) (c .args .lent)
 
-numbers-verdict-requires : tie.Need-numbers-verdict-requires
-numbers-verdict-requires c κs = search needs
-
-lists-verdict-requires : tie.Need-lists-verdict-requires
-lists-verdict-requires c κs = search needs
-
-enum-known-found : tie.Need-enum-known-found
-enum-known-found c = search needs
-
 returns : tie.Need-returns
 returns c =
     let found = rw (c .before .before .before .before .numbers-verdict .ensures) at (c .before .before .before .lists-verdict .ensures) in
     call-refuses _ (sym (c .before .found .given .1) ∙ found)
-
-enum-told : tie.Need-enum-told
-enum-told c = search needs
 
 notes-verdict-requires : tie.Need-notes-verdict-requires
 notes-verdict-requires c κs =
@@ -40,10 +28,10 @@ pub score-verdict-spec : {M : Type 1} → statement M
 score-verdict-spec =
     tie.close
     (tie.spec
-    numbers-verdict-requires
-    lists-verdict-requires
-    enum-known-found
+    (λ c κs. search needs)
+    (λ c κs. search needs)
+    (λ c. search needs)
     returns
-    enum-told
+    (λ c. search needs)
     notes-verdict-requires
     returns-2)

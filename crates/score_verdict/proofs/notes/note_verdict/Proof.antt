@@ -10,29 +10,14 @@ use Rattle.score_verdict.proofs.notes.note_verdict.Tie as tie
 abbrev score-in : tie.Start → Score
 score-in c = scoreOf (c .args .seq) (c .args .notes .now) (c .args .lane .now) (c .args .lent)
 
-enum-known-note : tie.Need-enum-known-note
-enum-known-note c = search needs
-
-enum-told : tie.Need-enum-told
-enum-told c = search needs
-
 returns : tie.Need-returns
 unfolding noteRefusal
 returns c = rw (c .enum-told .given .1)
-
-values-verdict-requires : tie.Need-values-verdict-requires
-values-verdict-requires c κs = search needs
-
-enum-known-found : tie.Need-enum-known-found
-enum-known-found c = search needs
 
 returns-2 : tie.Need-returns-2
 returns-2 c =
     let n = c .before .before .before .before .before .note .given in
     values-refuse _ _ _ (n .1) (sym (c .before .found .given .1) ∙ c .before .before .before .values-verdict .ensures)
-
-enum-told-2 : tie.Need-enum-told-2
-enum-told-2 c = search needs
 
 place-note-requires : tie.Need-place-note-requires
 place-note-requires c κs =
@@ -40,12 +25,6 @@ place-note-requires c κs =
       c .before .before .before .before .before .before .before .before .pre,
       values-number (score-in (c .before .before .before .before .before .before .before .before)) _ _ (n .1) (sym (c .enum-told2 .given .1) ∙ c .before .before .values-verdict .ensures),
     )
-
-passes-requires : tie.Need-passes-requires
-passes-requires c κs = search needs
-
-or-else-requires : tie.Need-or-else-requires
-or-else-requires c κs = search needs
 
 returns-3 : tie.Need-returns-3
 returns-3 c =
@@ -60,14 +39,14 @@ pub note-verdict-spec : {M : Type 1} → statement M
 note-verdict-spec =
     tie.close
     (tie.spec
-    enum-known-note
-    enum-told
+    (λ c. search needs)
+    (λ c. search needs)
     returns
-    values-verdict-requires
-    enum-known-found
+    (λ c κs. search needs)
+    (λ c. search needs)
     returns-2
-    enum-told-2
+    (λ c. search needs)
     place-note-requires
-    passes-requires
-    or-else-requires
+    (λ c κs. search needs)
+    (λ c κs. search needs)
     returns-3)

@@ -19,28 +19,13 @@ abbrev μ-loop : tie.MeasureT-loop
 loop-holds : tie.Need-loop-holds Inv-loop μ-loop
 loop-holds c = (probed-start, refl)
 
-note-at-requires : tie.Need-note-at-requires Inv-loop μ-loop
-note-at-requires c κs = omega arith
-
 note-verdict-requires : tie.Need-note-verdict-requires Inv-loop μ-loop
 note-verdict-requires c κs = c .before .before .before .before .before .pre
-
-enum-known-r : tie.Need-enum-known-r Inv-loop μ-loop
-enum-known-r c = search needs
 
 returns : tie.Need-returns Inv-loop μ-loop
 returns c =
     let v = rw (c .before .before .before .before .note-at .ensures) at (c .before .before .before .note-verdict .ensures) in
     all-notes _ (probed-here (c .before .before .before .before .before .before .loop .inv .0) (omega arith) (rw (c .before .r .given .1) at v))
-
-enum-told : tie.Need-enum-told Inv-loop μ-loop
-enum-told c = search needs
-
-add-k : tie.Need-add-k Inv-loop μ-loop
-add-k c = search needs
-
-loop-less : tie.Need-loop-less Inv-loop μ-loop
-loop-less c = omega arith
 
 loop-again : tie.Need-loop-again Inv-loop μ-loop
 loop-again c =
@@ -57,12 +42,12 @@ notes-verdict-spec =
     Inv-loop
     μ-loop
     loop-holds
-    note-at-requires
+    (λ c κs. omega arith)
     note-verdict-requires
-    enum-known-r
+    (λ c. search needs)
     returns
-    enum-told
-    add-k
-    loop-less
+    (λ c. search needs)
+    (λ c. search needs)
+    (λ c. omega arith)
     loop-again
     returns-2)

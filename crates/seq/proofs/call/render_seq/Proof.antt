@@ -10,29 +10,14 @@ use Rattle.seq.proofs.call.render_seq.Tie as tie
 draw-below : (c : tie.Start) → c .args .session .draw < 2 ^ 64
 draw-below c = omega arith
 
-score-verdict-requires : tie.Need-score-verdict-requires
-score-verdict-requires c κs = search needs
-
-enum-known-r : tie.Need-enum-known-r
-enum-known-r c = search needs
-
 returns : tie.Need-returns
 returns c = refused-call _ _ (sym (c .before .r .given .1) ∙ c .before .before .before .score-verdict .ensures) refl refl refl refl
-
-enum-told : tie.Need-enum-told
-enum-told c = search needs
 
 sub-score-draws : tie.Need-sub-score-draws
 sub-score-draws c = let fits = draw-below (c .before .before .before .before .before .before .before .before) in omega arith
 
 score-draws-requires : tie.Need-score-draws-requires
 score-draws-requires c κs = sym (sym (c .enum-told .given .1) ∙ c .before .before .score-verdict .ensures)
-
-enum-known-sum : tie.Need-enum-known-sum
-enum-known-sum c = search needs
-
-enum-told-2 : tie.Need-enum-told-2
-enum-told-2 c = search needs
 
 returns-2 : tie.Need-returns-2
 returns-2 c =
@@ -54,15 +39,6 @@ add-count c =
     let b22 = c .before .before .before .before .before .before .before .before .before .before .before .before .before .before .before .before .before .before .before .before .before .before in
     record { fits = draw-fits _ _ _ (draw-below (b22)) (sym (b11 .sum .given .1) ∙ b13 .score-draws .ensures) }
 
-same-length : tie.Need-same-length
-same-length c = search needs
-
-same-length-2 : tie.Need-same-length-2
-same-length-2 c = search needs
-
-same-length-3 : tie.Need-same-length-3
-same-length-3 c = search needs
-
 returns-3 : tie.Need-returns-3
 returns-3 c =
     let b6 = c .before .before .before .before .before .before in
@@ -80,18 +56,18 @@ pub render-seq-spec : {M : Type 1} → statement M
 render-seq-spec =
     tie.close
     (tie.spec
-    score-verdict-requires
-    enum-known-r
+    (λ c κs. search needs)
+    (λ c. search needs)
     returns
-    enum-told
+    (λ c. search needs)
     sub-score-draws
     score-draws-requires
-    enum-known-sum
-    enum-told-2
+    (λ c. search needs)
+    (λ c. search needs)
     returns-2
     play-notes-requires
     add-count
-    same-length
-    same-length-2
-    same-length-3
+    (λ c. search needs)
+    (λ c. search needs)
+    (λ c. search needs)
     returns-3)

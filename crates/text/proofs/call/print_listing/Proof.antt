@@ -14,32 +14,11 @@ use Rattle.text.proofs.call.print_listing.Tie as tie
 put-refusal-requires : tie.Need-put-refusal-requires
 put-refusal-requires c κs = let p = c .before .before .before .before .pre in omega arith
 
-same-length : tie.Need-same-length
-same-length c = search needs
-
 returns : tie.Need-returns
 returns c = printed-as (listing-long _ (c .before .before .before .before .if1 .taken)) (c .before .before .put-refusal .ensures)
 
-words-buffer-requires : tie.Need-words-buffer-requires
-words-buffer-requires c κs = search needs
-
-slice-aggregate-read-score : tie.Need-slice-aggregate-read-score
-slice-aggregate-read-score c = search needs
-
-read-score-requires : tie.Need-read-score-requires
-read-score-requires c κs = search needs
-
-enum-known-score : tie.Need-enum-known-score
-enum-known-score c = search needs
-
-enum-told : tie.Need-enum-told
-enum-told c = search needs
-
 put-refusal-requires-2 : tie.Need-put-refusal-requires-2
 put-refusal-requires-2 c κs = let p = c .before .before .before .before .before .before .before .before .before .before .pre in omega arith
-
-same-length-2 : tie.Need-same-length-2
-same-length-2 c = search needs
 
 returns-2 : tie.Need-returns-2
 returns-2 c =
@@ -50,9 +29,6 @@ returns-2 c =
 
 put-refusal-requires-3 : tie.Need-put-refusal-requires-3
 put-refusal-requires-3 c κs = let p = c .before .before .before .before .before .before .before .before .before .before .before .before .before .pre in omega arith
-
-same-length-3 : tie.Need-same-length-3
-same-length-3 c = search needs
 
 returns-3 : tie.Need-returns-3
 returns-3 c =
@@ -65,9 +41,6 @@ returns-3 c =
 put-refusal-requires-4 : tie.Need-put-refusal-requires-4
 put-refusal-requires-4 c κs = let p = c .before .before .before .before .before .before .before .before .before .before .before .before .before .before .before .pre in omega arith
 
-same-length-4 : tie.Need-same-length-4
-same-length-4 c = search needs
-
 returns-4 : tie.Need-returns-4
 returns-4 c =
     let b4 = c .before .before .before .before in
@@ -77,9 +50,6 @@ returns-4 c =
     printed-as
     (listing-notes _ (b15 .if1 .left) (parsed-score (b12 .read-score .ensures) (b9 .score .given .1)) (b4 .before .before .if2 .left) (b4 .if3 .taken))
     (c .before .before .put-refusal4 .ensures)
-
-mul-notes : tie.Need-mul-notes
-mul-notes c = search needs
 
 array-share-prefix-notes : tie.Need-array-share-prefix-notes
 array-share-prefix-notes c =
@@ -97,17 +67,11 @@ slice-aggregate-words c =
     let kept = b10 .read-score .kept .1 .0 in
     sym (length-take-le _ _ (omega arith))
 
-cast-play-score : tie.Need-cast-play-score
-cast-play-score c = search needs
-
 play-score-requires : tie.Need-play-score-requires
 play-score-requires c κs =
     let b6 = c .before .before .before .before .before .before in
     let b18 = b6 .before .before .before .before .before .before .before .before .before .before .before .before in
     (b6 .if2 .left, b18 .pre)
-
-same-length-5 : tie.Need-same-length-5
-same-length-5 c = search needs
 
 returns-5 : tie.Need-returns-5
 returns-5 c =
@@ -124,26 +88,26 @@ print-listing-spec =
     tie.close
     (tie.spec
     put-refusal-requires
-    same-length
+    (λ c. search needs)
     returns
-    words-buffer-requires
-    slice-aggregate-read-score
-    read-score-requires
-    enum-known-score
-    enum-told
+    (λ c κs. search needs)
+    (λ c. search needs)
+    (λ c κs. search needs)
+    (λ c. search needs)
+    (λ c. search needs)
     put-refusal-requires-2
-    same-length-2
+    (λ c. search needs)
     returns-2
     put-refusal-requires-3
-    same-length-3
+    (λ c. search needs)
     returns-3
     put-refusal-requires-4
-    same-length-4
+    (λ c. search needs)
     returns-4
-    mul-notes
+    (λ c. search needs)
     array-share-prefix-notes
     slice-aggregate-words
-    cast-play-score
+    (λ c. search needs)
     play-score-requires
-    same-length-5
+    (λ c. search needs)
     returns-5)

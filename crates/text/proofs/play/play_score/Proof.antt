@@ -11,18 +11,6 @@ use borrow.Author.Needs.{needs}
 use Rattle.text.proofs.play.play_score.Statement.{statement}
 use Rattle.text.proofs.play.play_score.Tie as tie
 
-frames-buffer-requires : tie.Need-frames-buffer-requires
-frames-buffer-requires c κs = search needs
-
-frames-buffer-requires-2 : tie.Need-frames-buffer-requires-2
-frames-buffer-requires-2 c κs = search needs
-
-string-buffer-requires : tie.Need-string-buffer-requires
-string-buffer-requires c κs = search needs
-
-open-requires : tie.Need-open-requires
-open-requires c κs = search needs
-
 array-borrow-prefix-frames : tie.Need-array-borrow-prefix-frames
 array-borrow-prefix-frames c =
     let a = c .before .before .before .before .before .before .args in
@@ -36,21 +24,6 @@ slice-aggregate-out c =
     let l = c .before .before .before .before .frames-buffer .result in
     let fits : a .n ≤ length l = omega (arith, c .before .before .before .before .frames-buffer .ensures, c .before .before .before .before .before .before .before .pre .0) in
     sym (length-take-le (a .n) l fits)
-
-array-share-prefix-lane : tie.Need-array-share-prefix-lane
-array-share-prefix-lane c = search needs
-
-slice-aggregate-render-seq : tie.Need-slice-aggregate-render-seq
-slice-aggregate-render-seq c = search needs
-
-slice-aggregate-render-seq-2 : tie.Need-slice-aggregate-render-seq-2
-slice-aggregate-render-seq-2 c = search needs
-
-slice-aggregate-render-seq-3 : tie.Need-slice-aggregate-render-seq-3
-slice-aggregate-render-seq-3 c = search needs
-
-render-seq-requires : tie.Need-render-seq-requires
-render-seq-requires c κs = search needs
 
 array-share-prefix-frames : tie.Need-array-share-prefix-frames
 array-share-prefix-frames c =
@@ -89,9 +62,6 @@ print-answer-requires c κs =
     let e = ap length (take-at (v .last .1 .1 .1 .1 .0) (drop (a .n) l) (a .n) len) ∙ len in
     (omega (arith, e, b16 .pre .0), b16 .pre .1)
 
-same-length : tie.Need-same-length
-same-length c = search needs
-
 returns : tie.Need-returns
 returns c =
     let b8 = c .before .before .before .before .before .before .before .before in
@@ -118,19 +88,19 @@ pub play-score-spec : {M : Type 1} → statement M
 play-score-spec =
     tie.close
     (tie.spec
-    frames-buffer-requires
-    frames-buffer-requires-2
-    string-buffer-requires
-    open-requires
+    (λ c κs. search needs)
+    (λ c κs. search needs)
+    (λ c κs. search needs)
+    (λ c κs. search needs)
     array-borrow-prefix-frames
     slice-aggregate-out
-    array-share-prefix-lane
-    slice-aggregate-render-seq
-    slice-aggregate-render-seq-2
-    slice-aggregate-render-seq-3
-    render-seq-requires
+    (λ c. search needs)
+    (λ c. search needs)
+    (λ c. search needs)
+    (λ c. search needs)
+    (λ c κs. search needs)
     array-share-prefix-frames
     slice-aggregate-print-answer
     print-answer-requires
-    same-length
+    (λ c. search needs)
     returns)

@@ -7,21 +7,9 @@ use borrow.Author.Needs.{needs}
 use Rattle.text_listing.proofs.digits.digit_for.Statement.{statement}
 use Rattle.text_listing.proofs.digits.digit_for.Tie as tie
 
-add-result : tie.Need-add-result
-add-result c = search needs
-
-cast-result : tie.Need-cast-result
-cast-result c = search needs
-
 returns : tie.Need-returns
 unfolding digitFor
 returns c = if-true _ (lt-ltb _ _ (c .if1 .taken)) refl
-
-add-result-2 : tie.Need-add-result-2
-add-result-2 c = search needs
-
-cast-result-2 : tie.Need-cast-result-2
-cast-result-2 c = search needs
 
 returns-2 : tie.Need-returns-2
 unfolding digitFor
@@ -29,4 +17,4 @@ returns-2 c = if-false _ (le-ltb _ _ (c .if1 .left)) refl
 
 pub digit-for-spec : {M : Type 1} → statement M
 digit-for-spec =
-    tie.close (tie.spec add-result cast-result returns add-result-2 cast-result-2 returns-2)
+    tie.close (tie.spec (λ c. search needs) (λ c. search needs) returns (λ c. search needs) (λ c. search needs) returns-2)

@@ -5,15 +5,6 @@ use borrow.Author.Needs.{needs}
 use Rattle.text_listing.proofs.digits.put_decimal_field.Statement.{statement}
 use Rattle.text_listing.proofs.digits.put_decimal_field.Tie as tie
 
-put-byte-requires : tie.Need-put-byte-requires
-put-byte-requires c κs = search needs
-
-put-decimal-requires : tie.Need-put-decimal-requires
-put-decimal-requires c κs = search needs
-
-same-length : tie.Need-same-length
-same-length c = search needs
-
 returns : tie.Need-returns
 returns c =
     let b6 = c .before .before .before .before .before .before in
@@ -22,4 +13,4 @@ returns c =
 
 pub put-decimal-field-spec : {M : Type 1} → statement M
 put-decimal-field-spec =
-    tie.close (tie.spec put-byte-requires put-decimal-requires same-length returns)
+    tie.close (tie.spec (λ c κs. search needs) (λ c κs. search needs) (λ c. search needs) returns)

@@ -5,15 +5,6 @@ use borrow.Author.Needs.{needs}
 use Rattle.text_listing.proofs.digits.put_hex_field.Statement.{statement}
 use Rattle.text_listing.proofs.digits.put_hex_field.Tie as tie
 
-put-byte-requires : tie.Need-put-byte-requires
-put-byte-requires c κs = search needs
-
-put-hex-requires : tie.Need-put-hex-requires
-put-hex-requires c κs = search needs
-
-same-length : tie.Need-same-length
-same-length c = search needs
-
 returns : tie.Need-returns
 returns c =
     let b6 = c .before .before .before .before .before .before in
@@ -21,4 +12,4 @@ returns c =
     printed-both (9 ∷ []) _ (b9 .pre) (b6 .put-byte .ensures) (c .before .before .put-hex .ensures)
 
 pub put-hex-field-spec : {M : Type 1} → statement M
-put-hex-field-spec = tie.close (tie.spec put-byte-requires put-hex-requires same-length returns)
+put-hex-field-spec = tie.close (tie.spec (λ c κs. search needs) (λ c κs. search needs) (λ c. search needs) returns)

@@ -6,9 +6,6 @@ use borrow.Author.Needs.{needs}
 use Rattle.text_listing.proofs.lines.put_frame.Statement.{statement}
 use Rattle.text_listing.proofs.lines.put_frame.Tie as tie
 
-put-byte-requires : tie.Need-put-byte-requires
-put-byte-requires c κs = search needs
-
 put-decimal-field-requires : tie.Need-put-decimal-field-requires
 put-decimal-field-requires c κs = second-room (70 ∷ []) _ _ (c .before .before .before .before .before .before .pre) (c .before .before .before .put-byte .ensures)
 
@@ -27,9 +24,6 @@ put-byte-requires-2 c κs =
     let b14 = b11 .before .before .before in
     last-room (70 ∷ []) _ _ lineEnd (b14 .pre) (b11 .put-byte .ensures) (b7 .put-decimal-field .ensures) (b3 .put-hex-field .ensures)
 
-same-length : tie.Need-same-length
-same-length c = search needs
-
 returns : tie.Need-returns
 returns c =
     let b6 = c .before .before .before .before .before .before in
@@ -42,9 +36,9 @@ pub put-frame-spec : {M : Type 1} → statement M
 put-frame-spec =
     tie.close
     (tie.spec
-    put-byte-requires
+    (λ c κs. search needs)
     put-decimal-field-requires
     put-hex-field-requires
     put-byte-requires-2
-    same-length
+    (λ c. search needs)
     returns)

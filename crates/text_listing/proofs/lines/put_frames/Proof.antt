@@ -15,23 +15,8 @@ abbrev μ-loop : tie.MeasureT-loop
 loop-holds : tie.Need-loop-holds Inv-loop μ-loop
 loop-holds c = listed-none (c .before .before .pre)
 
-mul-frame-bits : tie.Need-mul-frame-bits Inv-loop μ-loop
-mul-frame-bits c = search needs
-
-shared-slice-read-frame-bits : tie.Need-shared-slice-read-frame-bits Inv-loop μ-loop
-shared-slice-read-frame-bits c = search needs
-
-frame-bits-requires : tie.Need-frame-bits-requires Inv-loop μ-loop
-frame-bits-requires c κs = search needs
-
 put-frame-requires : tie.Need-put-frame-requires Inv-loop μ-loop
 put-frame-requires c κs = frame-room (c .before .before .before .before .loop .inv) (c .before .before .before .loop-test .taken) _
-
-add-i : tie.Need-add-i Inv-loop μ-loop
-add-i c = search needs
-
-loop-less : tie.Need-loop-less Inv-loop μ-loop
-loop-less c = search needs
 
 loop-again : tie.Need-loop-again Inv-loop μ-loop
 loop-again c =
@@ -52,12 +37,12 @@ put-frames-spec =
     Inv-loop
     μ-loop
     loop-holds
-    mul-frame-bits
-    shared-slice-read-frame-bits
-    frame-bits-requires
+    (λ c. search needs)
+    (λ c. search needs)
+    (λ c κs. search needs)
     put-frame-requires
-    add-i
-    loop-less
+    (λ c. search needs)
+    (λ c. search needs)
     loop-again
     same-length
     returns)

@@ -17,9 +17,6 @@ put-frames-requires c κs =
     let b7 = b3 .before .before .before .before in
     frames-room (b7 .args .state) (b7 .args .draw) (b7 .args .frames .now) (omega arith) (b7 .pre) (b3 .put-opening .kept .0) (b3 .put-opening .ensures)
 
-same-length : tie.Need-same-length
-same-length c = search needs
-
 returns : tie.Need-returns
 returns c =
     let b6 = c .before .before .before .before .before .before in
@@ -28,4 +25,4 @@ returns c =
 
 pub put-listing-spec : {M : Type 1} → statement M
 put-listing-spec =
-    tie.close (tie.spec put-opening-requires put-frames-requires same-length returns)
+    tie.close (tie.spec put-opening-requires put-frames-requires (λ c. search needs) returns)

@@ -8,9 +8,6 @@ use borrow.Author.Needs.{needs}
 use Rattle.text_listing.proofs.lines.put_refusal.Statement.{statement}
 use Rattle.text_listing.proofs.lines.put_refusal.Tie as tie
 
-put-byte-requires : tie.Need-put-byte-requires
-put-byte-requires c κs = search needs
-
 put-decimal-field-requires : tie.Need-put-decimal-field-requires
 put-decimal-field-requires c κs =
     let b3 = c .before .before .before in
@@ -24,9 +21,6 @@ put-byte-requires-2 c κs =
     let b10 = b7 .before .before .before in
     third-room (82 ∷ []) _ lineEnd (refusal-room (b10 .args .number) (omega arith) (b10 .pre)) (b7 .put-byte .ensures) (b3 .put-decimal-field .ensures)
 
-same-length : tie.Need-same-length
-same-length c = search needs
-
 returns : tie.Need-returns
 returns c =
     let b6 = c .before .before .before .before .before .before in
@@ -37,4 +31,4 @@ returns c =
 pub put-refusal-spec : {M : Type 1} → statement M
 put-refusal-spec =
     tie.close
-    (tie.spec put-byte-requires put-decimal-field-requires put-byte-requires-2 same-length returns)
+    (tie.spec (λ c κs. search needs) put-decimal-field-requires put-byte-requires-2 (λ c. search needs) returns)

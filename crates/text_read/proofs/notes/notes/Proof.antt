@@ -5,15 +5,6 @@ use borrow.Author.Needs.{needs}
 use Rattle.text_read.proofs.notes.notes.Statement.{statement}
 use Rattle.text_read.proofs.notes.notes.Tie as tie
 
-count-notes-requires : tie.Need-count-notes-requires
-count-notes-requires c κs = search needs
-
-enum-known-n : tie.Need-enum-known-n
-enum-known-n c = search needs
-
-enum-told : tie.Need-enum-told
-enum-told c = search needs
-
 returns : tie.Need-returns
 returns c =
     let b5 = c .before .before .before .before .before in
@@ -31,9 +22,6 @@ store-notes-requires c κs =
     let a = b5 .before .before .before .args in
     noted-fitting (drop (a .start) (a .s .now)) _ (b5 .count-notes .ensures) (c .before .before .before .n .given .1) (c .before .if1 .left)
 
-same-length : tie.Need-same-length
-same-length c = search needs
-
 returns-3 : tie.Need-returns-3
 returns-3 c =
     let b6 = c .before .before .before .before .before .before in
@@ -44,11 +32,11 @@ pub notes-spec : {M : Type 1} → statement M
 notes-spec =
     tie.close
     (tie.spec
-    count-notes-requires
-    enum-known-n
-    enum-told
+    (λ c κs. search needs)
+    (λ c. search needs)
+    (λ c. search needs)
     returns
     returns-2
     store-notes-requires
-    same-length
+    (λ c. search needs)
     returns-3)

@@ -5,21 +5,6 @@ use Rattle.float.proofs.Signed.{back}
 use Rattle.trig.proofs.sine.sin_any.Statement.{statement}
 use Rattle.trig.proofs.sine.sin_any.Tie as tie
 
-round-f64-requires : tie.Need-round-f64-requires
-round-f64-requires c κs = search needs
-
-f64-to-i64-requires : tie.Need-f64-to-i64-requires
-f64-to-i64-requires c κs = search needs
-
-nearest-i64-to-f64-requires : tie.Need-nearest-i64-to-f64-requires
-nearest-i64-to-f64-requires c κs = search needs
-
-rem-euclid-4-requires : tie.Need-rem-euclid-4-requires
-rem-euclid-4-requires c κs = search needs
-
-by-quadrant-requires : tie.Need-by-quadrant-requires
-by-quadrant-requires c κs = search needs
-
 returns : tie.Need-returns
 unfolding sinReduced
 returns c =
@@ -39,9 +24,9 @@ pub sin-any-spec : {M : Type 1} → statement M
 sin-any-spec =
     tie.close
     (tie.spec
-    round-f64-requires
-    f64-to-i64-requires
-    nearest-i64-to-f64-requires
-    rem-euclid-4-requires
-    by-quadrant-requires
+    (λ c κs. search needs)
+    (λ c κs. search needs)
+    (λ c κs. search needs)
+    (λ c κs. search needs)
+    (λ c κs. search needs)
     returns)

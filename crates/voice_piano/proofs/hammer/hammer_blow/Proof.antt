@@ -4,24 +4,6 @@ use borrow.Author.Needs.{needs}
 use Rattle.voice_piano.proofs.hammer.hammer_blow.Statement.{statement}
 use Rattle.voice_piano.proofs.hammer.hammer_blow.Tie as tie
 
-max-f32-requires : tie.Need-max-f32-requires
-max-f32-requires c κs = search needs
-
-max-f32-requires-2 : tie.Need-max-f32-requires-2
-max-f32-requires-2 c κs = search needs
-
-clamp-f32-requires : tie.Need-clamp-f32-requires
-clamp-f32-requires c κs = search needs
-
-clamp-f32-requires-2 : tie.Need-clamp-f32-requires-2
-clamp-f32-requires-2 c κs = search needs
-
-clamp-f32-requires-3 : tie.Need-clamp-f32-requires-3
-clamp-f32-requires-3 c κs = search needs
-
-max-f32-requires-3 : tie.Need-max-f32-requires-3
-max-f32-requires-3 c κs = search needs
-
 returns : tie.Need-returns
 unfolding blowOf
 returns c =
@@ -38,10 +20,10 @@ pub hammer-blow-spec : {M : Type 1} → statement M
 hammer-blow-spec =
     tie.close
     (tie.spec
-    max-f32-requires
-    max-f32-requires-2
-    clamp-f32-requires
-    clamp-f32-requires-2
-    clamp-f32-requires-3
-    max-f32-requires-3
+    (λ c κs. search needs)
+    (λ c κs. search needs)
+    (λ c κs. search needs)
+    (λ c κs. search needs)
+    (λ c κs. search needs)
+    (λ c κs. search needs)
     returns)

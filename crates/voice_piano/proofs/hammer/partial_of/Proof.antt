@@ -12,27 +12,6 @@ int-to-float-kf : tie.Need-int-to-float-kf
 unfolding inFloat
 int-to-float-kf c = le→leb (c .before .args .k) (2 ^ 24) (omega arith)
 
-sin-requires : tie.Need-sin-requires
-sin-requires c κs = search needs
-
-abs-f32-requires : tie.Need-abs-f32-requires
-abs-f32-requires c κs = search needs
-
-powf-requires : tie.Need-powf-requires
-powf-requires c κs = search needs
-
-max-f32-requires : tie.Need-max-f32-requires
-max-f32-requires c κs = search needs
-
-one-pole-requires : tie.Need-one-pole-requires
-one-pole-requires c κs = search needs
-
-fract-f32-requires : tie.Need-fract-f32-requires
-fract-f32-requires c κs = search needs
-
-fract-f32-requires-2 : tie.Need-fract-f32-requires-2
-fract-f32-requires-2 c κs = search needs
-
 returns : tie.Need-returns
 unfolding partialOf
 returns c =
@@ -51,11 +30,11 @@ partial-of-spec =
     tie.close
     (tie.spec
     int-to-float-kf
-    sin-requires
-    abs-f32-requires
-    powf-requires
-    max-f32-requires
-    one-pole-requires
-    fract-f32-requires
-    fract-f32-requires-2
+    (λ c κs. search needs)
+    (λ c κs. search needs)
+    (λ c κs. search needs)
+    (λ c κs. search needs)
+    (λ c κs. search needs)
+    (λ c κs. search needs)
+    (λ c κs. search needs)
     returns)

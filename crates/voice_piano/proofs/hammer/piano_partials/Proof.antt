@@ -16,34 +16,13 @@ abbrev μ-loop : tie.MeasureT-loop
 loop-holds : tie.Need-loop-holds Inv-loop μ-loop
 loop-holds c = built-none _ refl
 
-add-ratio-of : tie.Need-add-ratio-of Inv-loop μ-loop
-add-ratio-of c = search needs
-
-ratio-of-requires : tie.Need-ratio-of-requires Inv-loop μ-loop
-ratio-of-requires c κs = omega arith
-
 returns : tie.Need-returns Inv-loop μ-loop
 returns c =
     let inv = c .before .before .before .before .loop .inv in
     (inv .within, built-here inv (omega arith) (rw (c .before .before .ratio-of .ensures) at (c .if1 .taken)))
 
-add-partial-of : tie.Need-add-partial-of Inv-loop μ-loop
-add-partial-of c = search needs
-
-partial-of-requires : tie.Need-partial-of-requires Inv-loop μ-loop
-partial-of-requires c κs = omega arith
-
-mul-items : tie.Need-mul-items Inv-loop μ-loop
-mul-items c = search needs
-
 array-set-from-items : tie.Need-array-set-from-items Inv-loop μ-loop
 array-set-from-items c = omega (arith, (c .before .before .before .before .before .loop .inv) .room)
-
-add-j : tie.Need-add-j Inv-loop μ-loop
-add-j c = search needs
-
-loop-less : tie.Need-loop-less Inv-loop μ-loop
-loop-less c = omega arith
 
 loop-again : tie.Need-loop-again Inv-loop μ-loop
 loop-again c =
@@ -60,14 +39,14 @@ piano-partials-spec =
     Inv-loop
     μ-loop
     loop-holds
-    add-ratio-of
-    ratio-of-requires
+    (λ c. search needs)
+    (λ c κs. omega arith)
     returns
-    add-partial-of
-    partial-of-requires
-    mul-items
+    (λ c. search needs)
+    (λ c κs. omega arith)
+    (λ c. search needs)
     array-set-from-items
-    add-j
-    loop-less
+    (λ c. search needs)
+    (λ c. omega arith)
     loop-again
     returns-2)

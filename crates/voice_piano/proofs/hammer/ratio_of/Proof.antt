@@ -12,12 +12,9 @@ int-to-float-kf : tie.Need-int-to-float-kf
 unfolding inFloat
 int-to-float-kf c = le→leb (c .before .args .k) (2 ^ 24) (omega arith)
 
-sqrt-f32-requires : tie.Need-sqrt-f32-requires
-sqrt-f32-requires c κs = search needs
-
 returns : tie.Need-returns
 unfolding ratioOf
 returns c = rw (c .sqrt-f32 .ensures)
 
 pub ratio-of-spec : {M : Type 1} → statement M
-ratio-of-spec = tie.close (tie.spec int-to-float-kf sqrt-f32-requires returns)
+ratio-of-spec = tie.close (tie.spec int-to-float-kf (λ c κs. search needs) returns)

@@ -4,18 +4,6 @@ use Rattle.voice_piano.specs.Piano.{pianoAt}
 use Rattle.voice_piano.proofs.piano.piano_at.Statement.{statement}
 use Rattle.voice_piano.proofs.piano.piano_at.Tie as tie
 
-phase-step-requires : tie.Need-phase-step-requires
-phase-step-requires c κs = search needs
-
-wires-at-requires : tie.Need-wires-at-requires
-wires-at-requires c κs = search needs
-
-frame-time-requires : tie.Need-frame-time-requires
-frame-time-requires c κs = search needs
-
-thump-requires : tie.Need-thump-requires
-thump-requires c κs = search needs
-
 returns : tie.Need-returns
 unfolding pianoAt
 returns c =
@@ -28,8 +16,8 @@ pub piano-at-spec : {M : Type 1} → statement M
 piano-at-spec =
     tie.close
     (tie.spec
-    phase-step-requires
-    wires-at-requires
-    frame-time-requires
-    thump-requires
+    (λ c κs. search needs)
+    (λ c κs. search needs)
+    (λ c κs. search needs)
+    (λ c κs. search needs)
     returns)

@@ -13,31 +13,13 @@ use Rattle.voice_piano.proofs.piano.piano_note.Tie as tie
 returns : tie.Need-returns
 returns c = (no-frames _ _ _ _ _ _ (c .if1 .taken), no-draws _ _ _ (omega arith) (c .if1 .taken))
 
-nearest-u32-to-f32-requires : tie.Need-nearest-u32-to-f32-requires
-nearest-u32-to-f32-requires c κs = tt
-
 at-requires : tie.Need-at-requires
 at-requires c κs = reaches-less (c .before .before .before .before .args .pitch) _ _ _ (c .before .before .before .before .pre .1 .0) (omega arith)
-
-hammer-blow-requires : tie.Need-hammer-blow-requires
-hammer-blow-requires c κs = search needs
-
-piano-partials-requires : tie.Need-piano-partials-requires
-piano-partials-requires c κs = search needs
-
-loudness-requires : tie.Need-loudness-requires
-loudness-requires c κs = search needs
-
-string-pair-requires : tie.Need-string-pair-requires
-string-pair-requires c κs = search needs
 
 sound-piano-requires : tie.Need-sound-piano-requires
 sound-piano-requires c κs =
     let given = c .before .before .before .before .before .before .before .before .before .before .before .pre in
     (given .1 .0, (given .1 .1, c .before .before .before .before .piano-partials .ensures .0))
-
-same-length : tie.Need-same-length
-same-length c = search needs
 
 returns-2 : tie.Need-returns-2
 unfolding pianoFrames
@@ -62,12 +44,12 @@ piano-note-spec =
     tie.close
     (tie.spec
     returns
-    nearest-u32-to-f32-requires
+    (λ c κs. tt)
     at-requires
-    hammer-blow-requires
-    piano-partials-requires
-    loudness-requires
-    string-pair-requires
+    (λ c κs. search needs)
+    (λ c κs. search needs)
+    (λ c κs. search needs)
+    (λ c κs. search needs)
     sound-piano-requires
-    same-length
+    (λ c. search needs)
     returns-2)

@@ -29,14 +29,8 @@ piano-at-requires c κs =
     let given = c .before .before .before .before .before .pre in
     (record { most = omega (arith, filled-length (c .before .before .loop .inv), given .1 .0 .most) }, given .1 .1)
 
-mul-out : tie.Need-mul-out Inv-loop μ-loop
-mul-out c = search needs
-
 slice-write-out : tie.Need-slice-write-out Inv-loop μ-loop
 slice-write-out c = omega (arith, filled-length (c .before .before .before .loop .inv))
-
-add-i : tie.Need-add-i Inv-loop μ-loop
-add-i c = search needs
 
 loop-less : tie.Need-loop-less Inv-loop μ-loop
 loop-less c = omega (arith, filled-length (c .before .before .before .before .loop .inv))
@@ -67,9 +61,9 @@ sound-piano-spec =
     loop-holds
     at-requires
     piano-at-requires
-    mul-out
+    (λ c. search needs)
     slice-write-out
-    add-i
+    (λ c. search needs)
     loop-less
     loop-again
     same-length

@@ -6,9 +6,6 @@ use Rattle.voice_piano.specs.Piano.{thumpOf, thumpEnd}
 use Rattle.voice_piano.proofs.piano.thump.Statement.{statement}
 use Rattle.voice_piano.proofs.piano.thump.Tie as tie
 
-bi-requires : tie.Need-bi-requires
-bi-requires c κs = search needs
-
 returns : tie.Need-returns
 unfolding thumpOf thumpEnd
 returns c = (if-true _ (c .before .before .before .if1 .taken) (rw (c .before .before .bi .ensures .0)), if-true _ (c .before .before .before .if1 .taken) (c .before .before .bi .ensures .1))
@@ -18,4 +15,4 @@ unfolding thumpOf thumpEnd
 returns-2 c = (if-false _ (c .if1 .left) refl, if-false _ (c .if1 .left) refl)
 
 pub thump-spec : {M : Type 1} → statement M
-thump-spec = tie.close (tie.spec bi-requires returns returns-2)
+thump-spec = tie.close (tie.spec (λ c κs. search needs) returns returns-2)

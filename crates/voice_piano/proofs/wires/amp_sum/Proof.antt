@@ -20,18 +20,6 @@ abbrev μ-loop : tie.MeasureT-loop
 loop-holds : tie.Need-loop-holds Inv-loop μ-loop
 loop-holds c = (folded-none, omega arith)
 
-mul-p : tie.Need-mul-p Inv-loop μ-loop
-mul-p c = search needs
-
-array-copy-out-p : tie.Need-array-copy-out-p Inv-loop μ-loop
-array-copy-out-p c = search needs
-
-add-j : tie.Need-add-j Inv-loop μ-loop
-add-j c = search needs
-
-loop-less : tie.Need-loop-less Inv-loop μ-loop
-loop-less c = omega arith
-
 loop-again : tie.Need-loop-again Inv-loop μ-loop
 loop-again c = let n : length (c .before .before .before .before .args .t1) ≡ 18 = search needs in (folded-more (c .before .before .before .loop .inv .0) (omega arith) _ refl, omega arith)
 
@@ -41,4 +29,4 @@ returns c = folded-all (c .before .loop .inv .0) (c .before .before .args .count
 pub amp-sum-spec : {M : Type 1} → statement M
 amp-sum-spec =
     tie.close
-    (tie.spec Inv-loop μ-loop loop-holds mul-p array-copy-out-p add-j loop-less loop-again returns)
+    (tie.spec Inv-loop μ-loop loop-holds (λ c. search needs) (λ c. search needs) (λ c. search needs) (λ c. omega arith) loop-again returns)

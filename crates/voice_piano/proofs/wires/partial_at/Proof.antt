@@ -5,18 +5,6 @@ use borrow.Author.Needs.{needs}
 use Rattle.voice_piano.proofs.wires.partial_at.Statement.{statement}
 use Rattle.voice_piano.proofs.wires.partial_at.Tie as tie
 
-sin-requires : tie.Need-sin-requires
-sin-requires c κs = search needs
-
-sin-requires-2 : tie.Need-sin-requires-2
-sin-requires-2 c κs = search needs
-
-wrap-requires : tie.Need-wrap-requires
-wrap-requires c κs = search needs
-
-wrap-requires-2 : tie.Need-wrap-requires-2
-wrap-requires-2 c κs = search needs
-
 returns : tie.Need-returns
 unfolding added moved
 returns c =
@@ -25,4 +13,4 @@ returns c =
 
 pub partial-at-spec : {M : Type 1} → statement M
 partial-at-spec =
-    tie.close (tie.spec sin-requires sin-requires-2 wrap-requires wrap-requires-2 returns)
+    tie.close (tie.spec (λ c κs. search needs) (λ c κs. search needs) (λ c κs. search needs) (λ c κs. search needs) returns)

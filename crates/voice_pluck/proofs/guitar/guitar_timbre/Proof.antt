@@ -4,24 +4,6 @@ use borrow.Author.Needs.{needs}
 use Rattle.voice_pluck.proofs.guitar.guitar_timbre.Statement.{statement}
 use Rattle.voice_pluck.proofs.guitar.guitar_timbre.Tie as tie
 
-max-f32-requires : tie.Need-max-f32-requires
-max-f32-requires c κs = search needs
-
-max-f32-requires-2 : tie.Need-max-f32-requires-2
-max-f32-requires-2 c κs = search needs
-
-exp-requires : tie.Need-exp-requires
-exp-requires c κs = search needs
-
-resonance-requires : tie.Need-resonance-requires
-resonance-requires c κs = search needs
-
-resonance-requires-2 : tie.Need-resonance-requires-2
-resonance-requires-2 c κs = search needs
-
-resonance-requires-3 : tie.Need-resonance-requires-3
-resonance-requires-3 c κs = search needs
-
 returns : tie.Need-returns
 unfolding timbreOf
 returns c =
@@ -38,10 +20,10 @@ pub guitar-timbre-spec : {M : Type 1} → statement M
 guitar-timbre-spec =
     tie.close
     (tie.spec
-    max-f32-requires
-    max-f32-requires-2
-    exp-requires
-    resonance-requires
-    resonance-requires-2
-    resonance-requires-3
+    (λ c κs. search needs)
+    (λ c κs. search needs)
+    (λ c κs. search needs)
+    (λ c κs. search needs)
+    (λ c κs. search needs)
+    (λ c κs. search needs)
     returns)

@@ -4,15 +4,9 @@ use borrow.Author.Needs.{needs}
 use Rattle.voice_pluck.proofs.guitar.resonance.Statement.{statement}
 use Rattle.voice_pluck.proofs.guitar.resonance.Tie as tie
 
-cos-requires : tie.Need-cos-requires
-cos-requires c κs = search needs
-
-sin-requires : tie.Need-sin-requires
-sin-requires c κs = search needs
-
 returns : tie.Need-returns
 unfolding modeOf
 returns c = rw (c .sin .ensures, c .before .cos .ensures)
 
 pub resonance-spec : {M : Type 1} → statement M
-resonance-spec = tie.close (tie.spec cos-requires sin-requires returns)
+resonance-spec = tie.close (tie.spec (λ c κs. search needs) (λ c κs. search needs) returns)

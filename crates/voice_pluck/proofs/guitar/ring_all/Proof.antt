@@ -4,18 +4,9 @@ use borrow.Author.Needs.{needs}
 use Rattle.voice_pluck.proofs.guitar.ring_all.Statement.{statement}
 use Rattle.voice_pluck.proofs.guitar.ring_all.Tie as tie
 
-ring-requires : tie.Need-ring-requires
-ring-requires c κs = search needs
-
-ring-requires-2 : tie.Need-ring-requires-2
-ring-requires-2 c κs = search needs
-
-ring-requires-3 : tie.Need-ring-requires-3
-ring-requires-3 c κs = search needs
-
 returns : tie.Need-returns
 unfolding allRung
 returns c = rw (c .ring3 .ensures, c .before .ring2 .ensures, c .before .before .ring .ensures)
 
 pub ring-all-spec : {M : Type 1} → statement M
-ring-all-spec = tie.close (tie.spec ring-requires ring-requires-2 ring-requires-3 returns)
+ring-all-spec = tie.close (tie.spec (λ c κs. search needs) (λ c κs. search needs) (λ c κs. search needs) returns)

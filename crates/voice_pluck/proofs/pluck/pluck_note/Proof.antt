@@ -13,12 +13,6 @@ use Rattle.voice_pluck.proofs.pluck.pluck_note.Tie as tie
 at-requires : tie.Need-at-requires
 at-requires c κs = reaches-less (c .before .before .before .args .pitch) _ _ _ (c .before .before .before .pre .1 .0) (c .before .before .before .pre .1 .1 .0)
 
-string-period-requires : tie.Need-string-period-requires
-string-period-requires c κs = tt
-
-nearest-u32-to-f32-requires : tie.Need-nearest-u32-to-f32-requires
-nearest-u32-to-f32-requires c κs = tt
-
 sound-string-requires : tie.Need-sound-string-requires
 sound-string-requires c κs =
     let start = c .before .before .before .before .before .before .before .before in
@@ -29,12 +23,6 @@ sound-string-requires c κs =
       subst (λ (n : ℕ). 0 < n) is (le-trans (lit≤ tt) (period-least rate first)),
       (subst (λ (n : ℕ). n ≤ length (start .args .string .now)) is fits, start .pre .1 .1 .1 .0),
     )
-
-same-length : tie.Need-same-length
-same-length c = search needs
-
-same-length-2 : tie.Need-same-length-2
-same-length-2 c = search needs
 
 returns : tie.Need-returns
 returns c =
@@ -49,9 +37,9 @@ pluck-note-spec =
     tie.close
     (tie.spec
     at-requires
-    string-period-requires
-    nearest-u32-to-f32-requires
+    (λ c κs. tt)
+    (λ c κs. tt)
     sound-string-requires
-    same-length
-    same-length-2
+    (λ c. search needs)
+    (λ c. search needs)
     returns)

@@ -18,20 +18,8 @@ Inv-loop k g srf string₀ out₀ s₀ spos₀ i₀ string out s spos i =
 abbrev μ-loop : tie.MeasureT-loop
 μ-loop k g srf string₀ out₀ s₀ spos₀ i₀ string out s spos i = length out₀ - i
 
-at-rest-requires : tie.Need-at-rest-requires Inv-loop μ-loop
-at-rest-requires c κs = search needs
-
 loop-holds : tie.Need-loop-holds Inv-loop μ-loop
 loop-holds c = (rw (c .at-rest .ensures) filled-none, refl, c .before .before .before .pre .0)
-
-turn-requires : tie.Need-turn-requires Inv-loop μ-loop
-turn-requires c κs = omega arith
-
-mul-pluck-at : tie.Need-mul-pluck-at Inv-loop μ-loop
-mul-pluck-at c = search needs
-
-slice-read-pluck-at : tie.Need-slice-read-pluck-at Inv-loop μ-loop
-slice-read-pluck-at c = omega arith
 
 mul-pluck-at-2 : tie.Need-mul-pluck-at-2 Inv-loop μ-loop
 mul-pluck-at-2 c = let h : c .before .turn .result < length (c .before .before .before .loop .string) = c .before .turn .ensures .1 in search needs
@@ -50,17 +38,8 @@ mul-string c =
     let turn = c .before .before .before .before .before .loop in
     scaled-fits (turn .spos) (length (start .args .string .now)) 4 (turn .inv .2) (omega (arith, start .good .1 .1 .1 .0))
 
-slice-write-string : tie.Need-slice-write-string Inv-loop μ-loop
-slice-write-string c = omega arith
-
-mul-out : tie.Need-mul-out Inv-loop μ-loop
-mul-out c = search needs
-
 slice-write-out : tie.Need-slice-write-out Inv-loop μ-loop
 slice-write-out c = omega (arith, filled-length (c .before .before .before .before .before .loop .inv .0))
-
-add-i : tie.Need-add-i Inv-loop μ-loop
-add-i c = search needs
 
 loop-less : tie.Need-loop-less Inv-loop μ-loop
 loop-less c = omega (arith, filled-length (c .before .before .before .before .before .before .loop .inv .0))
@@ -95,19 +74,19 @@ ring-string-spec =
     (tie.spec
     Inv-loop
     μ-loop
-    at-rest-requires
+    (λ c κs. search needs)
     loop-holds
-    turn-requires
-    mul-pluck-at
-    slice-read-pluck-at
+    (λ c κs. omega arith)
+    (λ c. search needs)
+    (λ c. omega arith)
     mul-pluck-at-2
     slice-read-pluck-at-2
     pluck-at-requires
     mul-string
-    slice-write-string
-    mul-out
+    (λ c. omega arith)
+    (λ c. search needs)
     slice-write-out
-    add-i
+    (λ c. search needs)
     loop-less
     loop-again
     same-length

@@ -7,20 +7,8 @@ use Rattle.voice_pluck.proofs.Lent.{state-drawn, lent-length, frames-ru
 use Rattle.voice_pluck.proofs.pluck.sound_string.Statement.{statement}
 use Rattle.voice_pluck.proofs.pluck.sound_string.Tie as tie
 
-slice-relend-prefix-noise : tie.Need-slice-relend-prefix-noise
-slice-relend-prefix-noise c = search needs
-
 slice-aggregate-noise : tie.Need-slice-aggregate-noise
 slice-aggregate-noise c = sym (length-take-le _ _ (c .before .before .before .pre .1 .0))
-
-noise-requires : tie.Need-noise-requires
-noise-requires c κs = search needs
-
-guitar-timbre-requires : tie.Need-guitar-timbre-requires
-guitar-timbre-requires c κs = search needs
-
-slice-relend-prefix-ring-string : tie.Need-slice-relend-prefix-ring-string
-slice-relend-prefix-ring-string c = search needs
 
 slice-aggregate-ring-string : tie.Need-slice-aggregate-ring-string
 slice-aggregate-ring-string c =
@@ -31,12 +19,6 @@ ring-string-requires : tie.Need-ring-string-requires
 ring-string-requires c κs =
     let start = c .before .before .before .before .before .before .before .before .before in
     (omega (arith, lent-length (start .args .string .now) _ _ (start .pre .1 .0) (c .before .before .before .before .before .noise .ensures .0), start .pre .0), start .pre .1 .1)
-
-same-length : tie.Need-same-length
-same-length c = search needs
-
-same-length-2 : tie.Need-same-length-2
-same-length-2 c = search needs
 
 returns : tie.Need-returns
 returns c =
@@ -54,13 +36,13 @@ pub sound-string-spec : {M : Type 1} → statement M
 sound-string-spec =
     tie.close
     (tie.spec
-    slice-relend-prefix-noise
+    (λ c. search needs)
     slice-aggregate-noise
-    noise-requires
-    guitar-timbre-requires
-    slice-relend-prefix-ring-string
+    (λ c κs. search needs)
+    (λ c κs. search needs)
+    (λ c. search needs)
     slice-aggregate-ring-string
     ring-string-requires
-    same-length
-    same-length-2
+    (λ c. search needs)
+    (λ c. search needs)
     returns)

@@ -7,12 +7,6 @@ use borrow.Author.Needs.{needs}
 use Rattle.voice_pluck.proofs.pluck.turn.Statement.{statement}
 use Rattle.voice_pluck.proofs.pluck.turn.Tie as tie
 
-add-if1 : tie.Need-add-if1
-add-if1 c = search needs
-
-add-result : tie.Need-add-result
-add-result c = search needs
-
 returns : tie.Need-returns
 returns c = (sym (mod-eq-of-lt (c .if1 .taken)), omega arith)
 
@@ -20,4 +14,4 @@ returns-2 : tie.Need-returns-2
 returns-2 c = let e : c .before .args .spos + 1 ≡ c .before .args .n = omega arith in (rw (e, mod-self), omega arith)
 
 pub turn-spec : {M : Type 1} → statement M
-turn-spec = tie.close (tie.spec add-if1 add-result returns returns-2)
+turn-spec = tie.close (tie.spec (λ c. search needs) (λ c. search needs) returns returns-2)

@@ -25,14 +25,8 @@ at-requires c κs = reaches-less (c .before .before .before .before .args .pitch
 fm-at-requires : tie.Need-fm-at-requires Inv-loop μ-loop
 fm-at-requires c κs = record { most = omega (arith, filled-length (c .before .before .loop .inv), c .before .before .before .before .before .pre .1 .most) }
 
-mul-out : tie.Need-mul-out Inv-loop μ-loop
-mul-out c = search needs
-
 slice-write-out : tie.Need-slice-write-out Inv-loop μ-loop
 slice-write-out c = omega (arith, filled-length (c .before .before .before .loop .inv))
-
-add-i : tie.Need-add-i Inv-loop μ-loop
-add-i c = search needs
 
 loop-less : tie.Need-loop-less Inv-loop μ-loop
 loop-less c = omega (arith, filled-length (c .before .before .before .before .loop .inv))
@@ -58,9 +52,9 @@ fm-spec =
     loop-holds
     at-requires
     fm-at-requires
-    mul-out
+    (λ c. search needs)
     slice-write-out
-    add-i
+    (λ c. search needs)
     loop-less
     loop-again
     same-length

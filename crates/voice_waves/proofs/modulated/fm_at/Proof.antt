@@ -4,24 +4,6 @@ use borrow.Author.Needs.{needs}
 use Rattle.voice_waves.proofs.modulated.fm_at.Statement.{statement}
 use Rattle.voice_waves.proofs.modulated.fm_at.Tie as tie
 
-phase-step-requires : tie.Need-phase-step-requires
-phase-step-requires c κs = search needs
-
-fm-index-at-requires : tie.Need-fm-index-at-requires
-fm-index-at-requires c κs = search needs
-
-sin-requires : tie.Need-sin-requires
-sin-requires c κs = search needs
-
-sin-requires-2 : tie.Need-sin-requires-2
-sin-requires-2 c κs = search needs
-
-wrap-requires : tie.Need-wrap-requires
-wrap-requires c κs = search needs
-
-wrap-requires-2 : tie.Need-wrap-requires-2
-wrap-requires-2 c κs = search needs
-
 returns : tie.Need-returns
 unfolding fmAt
 returns c =
@@ -38,10 +20,10 @@ pub fm-at-spec : {M : Type 1} → statement M
 fm-at-spec =
     tie.close
     (tie.spec
-    phase-step-requires
-    fm-index-at-requires
-    sin-requires
-    sin-requires-2
-    wrap-requires
-    wrap-requires-2
+    (λ c κs. search needs)
+    (λ c κs. search needs)
+    (λ c κs. search needs)
+    (λ c κs. search needs)
+    (λ c κs. search needs)
+    (λ c κs. search needs)
     returns)

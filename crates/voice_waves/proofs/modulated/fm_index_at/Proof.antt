@@ -4,18 +4,9 @@ use borrow.Author.Needs.{needs}
 use Rattle.voice_waves.proofs.modulated.fm_index_at.Statement.{statement}
 use Rattle.voice_waves.proofs.modulated.fm_index_at.Tie as tie
 
-frame-time-requires : tie.Need-frame-time-requires
-frame-time-requires c κs = search needs
-
-max-f32-requires : tie.Need-max-f32-requires
-max-f32-requires c κs = search needs
-
-exp-requires : tie.Need-exp-requires
-exp-requires c κs = search needs
-
 returns : tie.Need-returns
 unfolding fmIndex
 returns c = rw (c .exp .ensures, c .before .max-f32 .ensures, c .before .before .before .frame-time .ensures)
 
 pub fm-index-at-spec : {M : Type 1} → statement M
-fm-index-at-spec = tie.close (tie.spec frame-time-requires max-f32-requires exp-requires returns)
+fm-index-at-spec = tie.close (tie.spec (λ c κs. search needs) (λ c κs. search needs) (λ c κs. search needs) returns)

@@ -4,19 +4,10 @@ use borrow.Author.Needs.{needs}
 use Rattle.voice_waves.proofs.plain.sine_at.Statement.{statement}
 use Rattle.voice_waves.proofs.plain.sine_at.Tie as tie
 
-phase-step-requires : tie.Need-phase-step-requires
-phase-step-requires c κs = search needs
-
-osc-requires : tie.Need-osc-requires
-osc-requires c κs = search needs
-
-wrap-requires : tie.Need-wrap-requires
-wrap-requires c κs = search needs
-
 returns : tie.Need-returns
 unfolding sineAt
 returns c = rw (c .wrap .ensures, c .before .osc .ensures, c .before .before .phase-step .ensures)
 
 pub sine-at-spec : {M : Type 1} → statement M
 sine-at-spec =
-    tie.close (tie.spec phase-step-requires osc-requires wrap-requires returns)
+    tie.close (tie.spec (λ c κs. search needs) (λ c κs. search needs) (λ c κs. search needs) returns)

@@ -7,19 +7,13 @@ use Rattle.osc.proofs.Wholes.{floor-cut}
 use Rattle.voice_waves.proofs.pulse.fract.Statement.{statement}
 use Rattle.voice_waves.proofs.pulse.fract.Tie as tie
 
-wrap-requires : tie.Need-wrap-requires
-wrap-requires c κs = search needs
-
 returns : tie.Need-returns
 returns c =
     let x = c .before .before .args .x in
     c .wrap .ensures ∙ ap (λ (n : Float). x ⊖ n) (floor-cut x (c .before .if1 .taken))
 
-fract-f32-requires : tie.Need-fract-f32-requires
-fract-f32-requires c κs = search needs
-
 returns-2 : tie.Need-returns-2
 returns-2 c = c .fract-f32 .ensures
 
 pub fract-spec : {M : Type 1} → statement M
-fract-spec = tie.close (tie.spec wrap-requires returns fract-f32-requires returns-2)
+fract-spec = tie.close (tie.spec (λ c κs. search needs) returns (λ c κs. search needs) returns-2)

@@ -27,17 +27,8 @@ at-requires-2 c κs =
     let start = c .before .before .before .before .before .before in
     reaches-less (start .args .duty) _ _ _ (start .pre .1) (omega (arith, filled-length (c .before .before .loop .inv)))
 
-square-at-requires : tie.Need-square-at-requires Inv-loop μ-loop
-square-at-requires c κs = tt
-
-mul-out : tie.Need-mul-out Inv-loop μ-loop
-mul-out c = search needs
-
 slice-write-out : tie.Need-slice-write-out Inv-loop μ-loop
 slice-write-out c = omega (arith, filled-length (c .before .before .before .before .loop .inv))
-
-add-i : tie.Need-add-i Inv-loop μ-loop
-add-i c = search needs
 
 loop-less : tie.Need-loop-less Inv-loop μ-loop
 loop-less c = omega (arith, filled-length (c .before .before .before .before .loop .inv))
@@ -63,10 +54,10 @@ square-spec =
     loop-holds
     at-requires
     at-requires-2
-    square-at-requires
-    mul-out
+    (λ c κs. tt)
+    (λ c. search needs)
     slice-write-out
-    add-i
+    (λ c. search needs)
     loop-less
     loop-again
     same-length

@@ -22,17 +22,8 @@ loop-holds c = filled-none
 at-requires : tie.Need-at-requires Inv-loop μ-loop
 at-requires c κs = reaches-less (c .before .before .before .before .args .pitch) _ _ _ (c .before .before .before .before .pre) (omega (arith, filled-length (c .before .loop .inv)))
 
-triangle-at-requires : tie.Need-triangle-at-requires Inv-loop μ-loop
-triangle-at-requires c κs = tt
-
-mul-out : tie.Need-mul-out Inv-loop μ-loop
-mul-out c = search needs
-
 slice-write-out : tie.Need-slice-write-out Inv-loop μ-loop
 slice-write-out c = omega (arith, filled-length (c .before .before .before .loop .inv))
-
-add-i : tie.Need-add-i Inv-loop μ-loop
-add-i c = search needs
 
 loop-less : tie.Need-loop-less Inv-loop μ-loop
 loop-less c = omega (arith, filled-length (c .before .before .before .before .loop .inv))
@@ -57,10 +48,10 @@ triangle-spec =
     μ-loop
     loop-holds
     at-requires
-    triangle-at-requires
-    mul-out
+    (λ c κs. tt)
+    (λ c. search needs)
     slice-write-out
-    add-i
+    (λ c. search needs)
     loop-less
     loop-again
     same-length
