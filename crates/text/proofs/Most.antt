@@ -53,17 +53,17 @@ small-or (Refuse x) w a b = a
 
 small-first : (ts : List Test) → T (small ts) → Small (firstOf ts)
 unfolding firstOf
-small-first [] h r e = absurd (let z : _≡_ {A = ℕ} 0 1 = cc in omega arith)
-small-first (t ∷ ts) h = here (t .holds) (leb (numberOf (t .refusal)) 99) refl h
+small-first [] h = λ r e. absurd (let z : _≡_ {A = ℕ} 0 1 = cc in omega arith)
+small-first (t ∷ ts) h = here (t .holds) (leb (numberOf (t .refusal)) 99) refl h (small-first ts)
   where
-    here : (b c : Bool) → leb (numberOf (t .refusal)) 99 ≡ c → T (cond c (small ts) false) → Small (cond b (Refuse (t .refusal)) (firstOf ts))
-    here true true q h r e = same-number e (leb-true (numberOf (t .refusal)) 99 q)
-    here false true q h = small-first ts h
-    here b false q h = absurd h
+    here : (b c : Bool) → leb (numberOf (t .refusal)) 99 ≡ c → T (cond c (small ts) false) → (T (small ts) → Small (firstOf ts)) → Small (cond b (Refuse (t .refusal)) (firstOf ts))
+    here true true q h rest = λ r e. same-number e (leb-true (numberOf (t .refusal)) 99 q)
+    here false true q h rest = rest h
+    here b false q h rest = absurd h
 
 small-all : (f : Decoded → Verdict) → ((e : Decoded) → Small (f e)) → (l : List Decoded) → Small (firstRefusal (map f l))
 unfolding firstRefusal
-small-all f each [] r e = absurd (let z : _≡_ {A = ℕ} 0 1 = cc in omega arith)
+small-all f each [] = λ r e. absurd (let z : _≡_ {A = ℕ} 0 1 = cc in omega arith)
 small-all f each (x ∷ xs) = small-or (f x) (firstRefusal (map f xs)) (each x) (small-all f each xs)
 
 module _ (s : Score) where
