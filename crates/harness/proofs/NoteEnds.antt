@@ -9,7 +9,7 @@ use Rattle.note.specs.NoteCall.{NoteEvent, Voiced, noteResultOf, noteResultIn, 
 use Rattle.note.specs.declared.answer.NoteAnswer.{NoteAnswer}
 use Rattle.harness_knobs.specs.Knobs.{voiceAt}
 use Rattle.harness.specs.Called.{Called, none, made, numberIn, stateAfterResult, Places, Holds}
-use Rattle.harness.specs.Note.{NoteExport, NoteExported, handedWith, calledWith, calledIn}
+use Rattle.harness.specs.Note.{NoteExport, NoteExported, handedWith, noteCalledWith, noteCalled}
 use Rattle.harness_knobs.specs.declared.VoiceAt.{VoiceAt}
 use Rattle.harness_knobs.specs.declared.VoiceAt.the-variants.{Voice, Nothing}
 use Rattle.harness.proofs.Ends.{Returned, made-holds}
@@ -38,18 +38,18 @@ module _ (e : NoteExport) where
   abbrev p : Places
   p = e .places
 
-  exported : (x : Called) → calledIn e ≡ x → Holds x p → NoteExported e
+  exported : (x : Called) → noteCalled e ≡ x → Holds x p → NoteExported e
   exported x q h = rw q h
 
   pub not-called : Nothing ≡ voiceAt (e .wave) (e .knobs) → Holds none p → NoteExported e
-  not-called v = exported none (ap (λ (x : VoiceAt). calledWith x e) (sym v))
+  not-called v = exported none (ap (λ (x : VoiceAt). noteCalledWith x e) (sym v))
 
   module _ (v : SeqVoice) (g : Rng) (a : NoteAnswer) (voice : Voice v ≡ voiceAt (e .wave) (e .knobs)) (state : g .0 ≡ p .state₀) (call : Voiced (callOf e v g a)) where
     abbrev result : Result
     result = noteResultIn (callOf e v g a)
 
-    called : calledIn e ≡ made result
-    called = ap (λ (x : VoiceAt). calledWith x e) (sym voice) ∙ ap (λ (s : ℕ). made (noteResultOf (handedWith v e) s)) (sym state)
+    called : noteCalled e ≡ made result
+    called = ap (λ (x : VoiceAt). noteCalledWith x e) (sym voice) ∙ ap (λ (s : ℕ). made (noteResultOf (handedWith v e) s)) (sym state)
 
     returned : Returned p result (a .outcome)
     returned = record { answer = call .answer; frames = call .frames; string = call .string }

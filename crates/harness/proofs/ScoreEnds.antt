@@ -12,7 +12,7 @@ use Rattle.session.specs.declared.Session.{Session}
 use Rattle.session.specs.declared.Answer.{Answer}
 use Rattle.harness_knobs.specs.Knobs.{voiceAt, envAt}
 use Rattle.harness.specs.Called.{Called, none, made, numberIn, stateAfterResult, drawAfterResult, drawAfterCall, freeAfterCall, Places, Holds}
-use Rattle.harness.specs.Score.{ScoreExport, ScoreExported, scoreWith, calledWith, calledIn}
+use Rattle.harness.specs.Score.{ScoreExport, ScoreExported, scoreWith, scoreCalledWith, scoreCalled}
 use Rattle.harness_knobs.specs.declared.VoiceAt.{VoiceAt}
 use Rattle.harness_knobs.specs.declared.VoiceAt.the-variants.{Voice}
 use Rattle.harness_knobs.specs.declared.VoiceAt.the-variants as voices
@@ -57,15 +57,15 @@ module _ (e : ScoreExport) where
   Others x =
       (e .draw ≡ drawAfterCall (e .draw₀) x) × (drop (freeAfterCall (length (p .out₀)) x) (e .buffer) ≡ drop (freeAfterCall (length (p .out₀)) x) (e .buffer₀))
 
-  exported : (x : Called) → calledIn e ≡ x → Holds x p → Others x → ScoreExported e
+  exported : (x : Called) → scoreCalled e ≡ x → Holds x p → Others x → ScoreExported e
   exported x q h o = record { places = rw q h; draw = rw q (o .0); buffer = rw q (o .1) }
 
   pub no-voice : voices.Nothing ≡ voiceAt (e .wave) (e .knobs) → Holds none p → Others none → ScoreExported e
-  no-voice v = exported none (ap (λ (x : VoiceAt). calledWith x (envAt (e .env)) e) (sym v))
+  no-voice v = exported none (ap (λ (x : VoiceAt). scoreCalledWith x (envAt (e .env)) e) (sym v))
 
   module _ (v : SeqVoice) (voice : Voice v ≡ voiceAt (e .wave) (e .knobs)) where
-    voiced : (m : EnvAt) → m ≡ envAt (e .env) → calledIn e ≡ calledWith (Voice v) m e
-    voiced m env = λ j. calledWith (sym voice j) (sym env j) e
+    voiced : (m : EnvAt) → m ≡ envAt (e .env) → scoreCalled e ≡ scoreCalledWith (Voice v) m e
+    voiced m env = λ j. scoreCalledWith (sym voice j) (sym env j) e
 
     pub no-envelope : envelopes.Nothing ≡ envAt (e .env) → Holds none p → Others none → ScoreExported e
     no-envelope m = exported none (voiced envelopes.Nothing m)
@@ -74,7 +74,7 @@ module _ (e : ScoreExport) where
       abbrev result : Result
       result = resultIn (sessionOf e g) (callOf e v m a)
 
-      called : calledIn e ≡ made result
+      called : scoreCalled e ≡ made result
       called = voiced (Env m) env ∙ ap (λ (s : ℕ). made (resultOf (scoreWith v m e) s (e .draw₀))) (sym state)
 
       returned : Returned p result (a .outcome)

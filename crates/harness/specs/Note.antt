@@ -33,13 +33,13 @@ handedWith v e = record {
   string = length (e .places .string₀);
 }
 
-abbrev pub calledWith : VoiceAt → NoteExport → Called
-calledWith (Voice v) e = made (noteResultOf (handedWith v e) (e .places .state₀))
-calledWith Nothing e = none
+abbrev pub noteCalledWith : VoiceAt → NoteExport → Called
+noteCalledWith (Voice v) e = made (noteResultOf (handedWith v e) (e .places .state₀))
+noteCalledWith Nothing e = none
 
-abbrev pub calledIn : NoteExport → Called
-calledIn e = calledWith (voiceAt (e .wave) (e .knobs)) e
+abbrev pub noteCalled : NoteExport → Called
+noteCalled e = noteCalledWith (voiceAt (e .wave) (e .knobs)) e
 
 -- The contract: all is as in the note call of that voice.
 abbrev pub NoteExported : NoteExport → Type 0
-NoteExported e = Holds (calledIn e) (e .places)
+NoteExported e = Holds (noteCalled e) (e .places)

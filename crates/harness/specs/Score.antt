@@ -38,16 +38,16 @@ abbrev pub scoreWith : SeqVoice → Adsr → ScoreExport → Score
 scoreWith v a e =
     handed (record { timing = e .timing; voice = v; duty = e .duty; env = a }) (e .notes) (e .lane) (e .places .out₀) (e .buffer₀) (e .places .string₀)
 
-abbrev pub calledWith : VoiceAt → EnvAt → ScoreExport → Called
-calledWith (Voice v) (Env a) e = made (resultOf (scoreWith v a e) (e .places .state₀) (e .draw₀))
-calledWith (Voice v) envelopes.Nothing e = none
-calledWith voices.Nothing env e = none
+abbrev pub scoreCalledWith : VoiceAt → EnvAt → ScoreExport → Called
+scoreCalledWith (Voice v) (Env a) e = made (resultOf (scoreWith v a e) (e .places .state₀) (e .draw₀))
+scoreCalledWith (Voice v) envelopes.Nothing e = none
+scoreCalledWith voices.Nothing env e = none
 
-abbrev pub calledIn : ScoreExport → Called
-calledIn e = calledWith (voiceAt (e .wave) (e .knobs)) (envAt (e .env)) e
+abbrev pub scoreCalled : ScoreExport → Called
+scoreCalled e = scoreCalledWith (voiceAt (e .wave) (e .knobs)) (envAt (e .env)) e
 
 -- The contract: all is as in the score call of that voice and envelope. The note buffer's first n values are free after an accepted call.
 pub record ScoreExported (e : ScoreExport) : Type 0 where
-  pub places : Holds (calledIn e) (e .places)
-  pub draw : e .draw ≡ drawAfterCall (e .draw₀) (calledIn e)
-  pub buffer : drop (freeAfterCall (length (e .places .out₀)) (calledIn e)) (e .buffer) ≡ drop (freeAfterCall (length (e .places .out₀)) (calledIn e)) (e .buffer₀)
+  pub places : Holds (scoreCalled e) (e .places)
+  pub draw : e .draw ≡ drawAfterCall (e .draw₀) (scoreCalled e)
+  pub buffer : drop (freeAfterCall (length (e .places .out₀)) (scoreCalled e)) (e .buffer) ≡ drop (freeAfterCall (length (e .places .out₀)) (scoreCalled e)) (e .buffer₀)

@@ -10,7 +10,7 @@ use Rattle.text_digits.specs.Read.{Read, got, broken}
 use Rattle.laws.proofs.If.{if-true, if-false}
 use Rattle.text_lines.specs.Line.{before, storedIn, line}
 use Rattle.text_read.specs.Notes.{lineN, notesOf, eitherForm, wordsOf, formN, formShort, gain1, countOf, counted, wordsAfter, Noted, Fitting}
-use Rattle.text_read.specs.Answers.{noteIn}
+use Rattle.text_read.specs.Answers.{noteRead}
 use Rattle.text_read.specs.declared.notes.LineN.{LineN}
 use Rattle.text_read.specs.declared.notes.LineN.the-variants as line-n
 use Rattle.text_read.specs.declared.notes.Count.{Count}
@@ -81,7 +81,7 @@ module _ {s : List ℕ} {start at n : ℕ} (g : Gathered s start at n) where
   pub gathered-count : length s ≤ at → Lines n ≡ counted (notesOf (drop start s))
   gathered-count h = let z : n ≡ length (g .ws) / 5 = omega (arith, g .five) in rw (← (gathered-all h)) (ap Lines z)
 
-  module _ {r : LineN} (lt : at < length s) (e : noteIn s r ≡ lineN (drop at s)) where
+  module _ {r : LineN} (lt : at < length s) (e : noteRead s r ≡ lineN (drop at s)) where
     pub gathered-bad : r ≡ line-n.Broken → broken ≡ notesOf (drop start s)
     gathered-bad told =
         let d : broken ≡ lineN (getD s at 0 ∷ drop (at + 1) s) = rw (told, head s at lt) at e in
@@ -125,7 +125,7 @@ module _ {s : List ℕ} {start : ℕ} {words₀ words : List ℕ} {at n : ℕ} (
       let l : length w ≤ length words₀ = rw z (g .fits .room) in
       rw (← all) (if-false words₀ (le-ltb (length words₀) (length w) l) (g .held))
 
-  module _ {r : LineN} (lt : at < length s) (e : noteIn s r ≡ lineN (drop at s)) where
+  module _ {r : LineN} (lt : at < length s) (e : noteRead s r ≡ lineN (drop at s)) where
     -- lines that were judged do not break
     pub storing-bad : {P : Type 0} → r ≡ line-n.Broken → P
     storing-bad told = broken-got (gathered-bad (g .gathered) lt e told ∙ g .fits .is)

@@ -12,7 +12,7 @@ use Rattle.text_lines.proofs.Forms.{parted, got-value}
 use Rattle.text_voice_line.specs.Voice.{lineV}
 use Rattle.text_read.specs.Notes.{notesOf, countOf, wordsAfter}
 use Rattle.text_read.proofs.Fives.{notes-five}
-use Rattle.text_read.specs.Text.{Text, textOf, textScoreOf, parsedOf, notesIn, Parses}
+use Rattle.text_read.specs.Text.{Text, textOf, textScoreOf, parsedOf, notesRead, Parses}
 use Rattle.text_read.specs.declared.text.TextScore.{TextScore}
 use Rattle.text_read.specs.declared.text.Parsed.{Parsed}
 use Rattle.text_read.specs.declared.text.Parsed.the-variants.{Score, Broken}
@@ -25,7 +25,7 @@ pub record Said (x : TextScore) (read : Read Text) (words₀ words : List ℕ) :
   pub score : x ≡ textScoreOf text
   pub stored : words ≡ wordsAfter (got (text .notes) rest) words₀
 
-said : (read : Read Text) (words₀ words : List ℕ) {x : TextScore} → Score x ≡ parsedOf read → words ≡ wordsAfter (notesIn read) words₀ → Said x read words₀ words
+said : (read : Read Text) (words₀ words : List ℕ) {x : TextScore} → Score x ≡ parsedOf read → words ≡ wordsAfter (notesRead read) words₀ → Said x read words₀ words
 said (got t rest) words₀ words {x} e h = record { text = t; rest = rest; is = refl; score = cc; stored = h }
 said broken words₀ words {x} e h = let z : _≡_ {A = ℕ} 0 1 = cc in absurd (omega arith)
 

@@ -9,7 +9,7 @@ use lib.Dec.{ltb, leb, eqb}
 use Rattle.text_digits.specs.Read.{Read, got, broken, after, digitOf, byte, hexFrom, digitsFrom, fitting, decimal}
 use Rattle.text_lines.specs.Line.{value, field, fields, before, ending, line}
 use Rattle.text_read.specs.Notes.{lineN, notesUpTo, notesOf, eitherForm, wordsOf, formN, formShort, gain1}
-use Rattle.text_read.specs.Answers.{noteIn}
+use Rattle.text_read.specs.Answers.{noteRead}
 use Rattle.text_read.specs.declared.notes.LineN.{LineN}
 use Rattle.text_read.specs.declared.notes.LineN.the-variants.{At}
 use Rattle.text_lines.proofs.Forms.{broken-got, test-picked, either, parted, after-same}
@@ -137,7 +137,7 @@ notes-line b s =
     after-same (lineN (b ∷ s)) (λ ws rest. before ws (notesUpTo (length s) rest)) (λ ws rest. before ws (notesUpTo (length rest) rest))
     (λ ws rest e. let m = note-shorter (b ∷ s) e in ap (before ws) (enough (length s) (length rest) rest (omega arith) (omega arith)))
 
-pub note-later : (s : List ℕ) (at : ℕ) {r : LineN} {a b p q next : ℕ} → r ≡ At a b p q next → noteIn s r ≡ lineN (drop at s) → length s - next < length s - at
+pub note-later : (s : List ℕ) (at : ℕ) {r : LineN} {a b p q next : ℕ} → r ≡ At a b p q next → noteRead s r ≡ lineN (drop at s) → length s - next < length s - at
 note-later s at {r} {a} {b} {p} {q} {next} told e =
     let l = note-shorter (drop at s) (sym (rw told at e)) in
     let m = length-drop at s in

@@ -8,7 +8,7 @@ use Rattle.text_digits.specs.Read.{Read, got, broken, after}
 use Rattle.text_lines.specs.Line.{lineS, lineG, lineE}
 use Rattle.text_voice_line.specs.Voice.{lineV}
 use Rattle.text_read.specs.Notes.{notesOf, countOf, counted, wordsAfter, Noted}
-use Rattle.text_read.specs.Text.{Text, seqOf, textOf, parsedOf, notesIn, Parses}
+use Rattle.text_read.specs.Text.{Text, seqOf, textOf, parsedOf, notesRead, Parses}
 use Rattle.text_lines.specs.declared.Numbers.{Numbers}
 use Rattle.text_lines.specs.declared.Opening.{Opening}
 use Rattle.text_voice_line.specs.declared.Sound.{Sound}
@@ -61,15 +61,15 @@ module _ (text words : List ℕ) where
           good (got ws rest) {n} e = let z : n ≡ countOf ws = cc in rw z
           good broken e = let z : _≡_ {A = ℕ} 0 1 = cc in absurd (omega arith)
 
-          same-notes : (x : Read (List ℕ)) → x ≡ notesIn (textFrom x)
+          same-notes : (x : Read (List ℕ)) → x ≡ notesRead (textFrom x)
           unfolding textFrom textWith
           same-notes (got ws rest) = refl
           same-notes broken = refl
 
           module _ {words₁ : List ℕ} {r : Count} (h : Noted (notesOf s₄) words r words₁) where
-            words-after : words₁ ≡ wordsAfter (notesIn (textOf text)) words
+            words-after : words₁ ≡ wordsAfter (notesRead (textOf text)) words
             unfolding textFrom
-            words-after = h .stored ∙ ap (λ (x : Read (List ℕ)). wordsAfter x words) (same-notes (notesOf s₄) ∙ ap notesIn (sym lines-read))
+            words-after = h .stored ∙ ap (λ (x : Read (List ℕ)). wordsAfter x words) (same-notes (notesOf s₄) ∙ ap notesRead (sym lines-read))
 
             pub broken-notes : r ≡ count-of.Broken → Parses text words Broken words₁
             unfolding textFrom

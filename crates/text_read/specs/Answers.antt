@@ -6,6 +6,6 @@ use Rattle.text_digits.specs.Read.{Read, got, broken}
 use Rattle.text_read.specs.declared.notes.LineN.{LineN}
 use Rattle.text_read.specs.declared.notes.LineN.the-variants as line-n
 
-abbrev pub noteIn : List ℕ → LineN → Read (List ℕ)
-noteIn s (line-n.At step len pitch gain next) = got (step ∷ len ∷ 0 ∷ pitch ∷ gain ∷ []) (drop next s)
-noteIn s line-n.Broken = broken
+abbrev pub noteRead : List ℕ → LineN → Read (List ℕ)
+noteRead s (line-n.At step len pitch gain next) = got (step ∷ len ∷ 0 ∷ pitch ∷ gain ∷ []) (drop next s)
+noteRead s line-n.Broken = broken

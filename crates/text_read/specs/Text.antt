@@ -48,11 +48,11 @@ abbrev pub parsedOf : Read Text → Parsed
 parsedOf (got t rest) = Score (textScoreOf t)
 parsedOf broken = Broken
 
-abbrev pub notesIn : Read Text → Read (List ℕ)
-notesIn (got t rest) = got (t .notes) rest
-notesIn broken = broken
+abbrev pub notesRead : Read Text → Read (List ℕ)
+notesRead (got t rest) = got (t .notes) rest
+notesRead broken = broken
 
 -- The contract of a reader of the text that is lent `notes₀` and leaves `notes`.
 pub record Parses (text notes₀ : List ℕ) (parsed : Parsed) (notes : List ℕ) : Type 0 where
   pub answer : parsed ≡ parsedOf (textOf text)
-  pub words : notes ≡ wordsAfter (notesIn (textOf text)) notes₀
+  pub words : notes ≡ wordsAfter (notesRead (textOf text)) notes₀

@@ -4,7 +4,7 @@ ghost use mathlib.Core.List.{[], _∷_, _++_};
 ghost use Prim.Native.Nat.{_+_, _*_, _≤_};
 ghost use lib.ListN.{length, take, drop};
 ghost use Rattle.text_read.specs.Notes.{lineN, notesOf, counted, wordsAfter, Noted, Fitting};
-ghost use Rattle.text_read.specs.Answers.{noteIn};
+ghost use Rattle.text_read.specs.Answers.{noteRead};
 use text_digits::Place;
 use text_lines::FLOAT;
 use text_lines::WORD;
@@ -18,7 +18,7 @@ enum LineN {
 
 // A line of four fields, or one that stops after pitch and has the gain 1.
 fn line_n(s: &[u8], at: usize) -> LineN
-    ensures { λ r. ⌜ noteIn (now (s .entry)) r ≡ lineN (drop at (now (s .entry))) ⌝ }
+    ensures { λ r. ⌜ noteRead (now (s .entry)) r ≡ lineN (drop at (now (s .entry))) ⌝ }
 {
     let mut whole = [0u32; 4];
     if let Place::At(next) = line(s, at, b'N', &[WORD, WORD, FLOAT, FLOAT], &mut whole) {
