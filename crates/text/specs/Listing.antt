@@ -46,13 +46,27 @@ abbrev pub tooLarge : Read Text → Bool
 tooLarge broken = false
 tooLarge (got t rest) = cond (ltb 2048 (t .n)) true (ltb 256 (countOf (t .notes)))
 
--- The number by which a text is refused before its score call is made, 0 where it is not: "text only, before all others: 16 input above 65,536 bytes; 15 some line not of its
--- form, a line missing or one too many; 16 n above 2,048 or notes above 256".
+-- a test, and the number that refuses a text where it holds; a text's refusals have no place in a library call's `Refusal`
+pub record TextTest : Type 0 where
+  pub holds : Bool
+  pub number : ℕ
+
+infix 50 _⇒#_
+abbrev pub _⇒#_ : Bool → ℕ → TextTest
+test ⇒# number = record { holds = test; number = number }
+
+-- the number of the first test that holds, 0 where none does
+abbrev pub firstNumber : List TextTest → ℕ
+firstNumber [] = 0
+firstNumber (t ∷ ts) = cond (t .holds) (t .number) (firstNumber ts)
+
+-- "text only, before all others: 16 input above 65,536 bytes; 15 some line not of its form, a line missing or one too many; 16 n above 2,048 or notes above 256"
+abbrev pub textTests : List ℕ → List TextTest
+textTests text = (ltb 65536 (length text) ⇒# 16) ∷ (formBroken (textOf text) ⇒# 15) ∷ (tooLarge (textOf text) ⇒# 16) ∷ []
+
+-- the number by which a text is refused before its score call is made, 0 where it is not
 unfoldable pub textRefusal : List ℕ → ℕ
-textRefusal text =
-    cond (ltb 65536 (length text)) 16
-    (cond (formBroken (textOf text)) 15
-    (cond (tooLarge (textOf text)) 16 0))
+textRefusal text = firstNumber (textTests text)
 
 -- the one score call of what was read; nothing of a broken text, whose refusal is never 0 (the law `unrefused-read`)
 abbrev pub playedRead : Read Text → List ℕ
