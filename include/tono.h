@@ -1,7 +1,7 @@
-/* tono.h: plays a text score.
+/* tono.h: plays a text score from C or C++.
  *
- * The function stands in libtono.a, which `rt staticlib tono` writes to target/staticlib. It needs
- * nothing but memcpy and memset of the C library. x86-64 Linux. */
+ * Link libtono.a, which `rt staticlib tono` writes to target/staticlib. It needs nothing but memcpy and
+ * memset of the C library. x86-64 Linux. The header compiles as C99 and later, and as C++. */
 #ifndef TONO_H
 #define TONO_H
 
@@ -12,39 +12,110 @@
 extern "C" {
 #endif
 
-/* What tono_play returns where the listing does not fit the reply. */
+/* The version of this header and of the library that it belongs to. */
+#define TONO_VERSION "1.0.0"
+#define TONO_VERSION_MAJOR 1
+#define TONO_VERSION_MINOR 0
+#define TONO_VERSION_PATCH 0
+
+static inline const char *tono_version(void)
+{
+    return TONO_VERSION;
+}
+
+/* Why a call is refused. The R line of a listing holds one of these numbers; a text score can give RATE,
+ * TEMPO, STEPS_PER_BEAT, GROOVE, KNOBS, PLACE, SIZE, FORM, TEXT_SIZE and DRAWS. */
+enum tono_refusal {
+    TONO_REFUSED_RATE = 1,
+    TONO_REFUSED_FRAMES = 2,
+    TONO_REFUSED_TEMPO = 3,
+    TONO_REFUSED_STEPS_PER_BEAT = 4,
+    TONO_REFUSED_GROOVE = 5,
+    TONO_REFUSED_KNOBS = 6,
+    TONO_REFUSED_WORDS = 7,
+    TONO_REFUSED_KIND = 8,
+    TONO_REFUSED_PLACE = 9,
+    TONO_REFUSED_SIZE = 10,
+    TONO_REFUSED_LANE = 11,
+    TONO_REFUSED_REACH = 12,
+    TONO_REFUSED_NO_PITCH = 13,
+    TONO_REFUSED_LENGTHS = 14,
+    TONO_REFUSED_FORM = 15,
+    TONO_REFUSED_TEXT_SIZE = 16,
+    TONO_REFUSED_NOTE_BUFFER = 20,
+    TONO_REFUSED_STRING_BUFFER = 21,
+    TONO_REFUSED_DRAWS = 22,
+    TONO_REFUSED_REPLY = 23
+};
+
+/* What a refusal's number means, in one line; NULL for a number that is none. */
+static inline const char *tono_reason(int number)
+{
+    switch (number) {
+    case TONO_REFUSED_RATE: return "the rate is not from 8,000 to 192,000";
+    case TONO_REFUSED_FRAMES: return "there are more than 16,777,216 frames";
+    case TONO_REFUSED_TEMPO: return "the tempo is not from 1 to 1,000 beats a minute";
+    case TONO_REFUSED_STEPS_PER_BEAT: return "the steps per beat are not from 1 to 64";
+    case TONO_REFUSED_GROOVE: return "swing or humanize is not from 0 to 1";
+    case TONO_REFUSED_KNOBS: return "a knob, the duty or an envelope number is not sized";
+    case TONO_REFUSED_WORDS: return "the number of note words is not a multiple of five";
+    case TONO_REFUSED_KIND: return "a note's kind is neither 0 (a number) nor 1 (a curve)";
+    case TONO_REFUSED_PLACE: return "a note's step or length is above 1,048,575";
+    case TONO_REFUSED_SIZE: return "a gain or a pitch is not sized";
+    case TONO_REFUSED_LANE: return "a value of the lane is not sized";
+    case TONO_REFUSED_REACH: return "a curve passes the end of its lane";
+    case TONO_REFUSED_NO_PITCH: return "the pitch is empty";
+    case TONO_REFUSED_LENGTHS: return "pitch, duty and output differ in length";
+    case TONO_REFUSED_FORM: return "a line does not have its form, or a line is missing or one too many";
+    case TONO_REFUSED_TEXT_SIZE: return "there are more than 65,536 bytes, 2,048 frames or 256 notes";
+    case TONO_REFUSED_NOTE_BUFFER: return "the note buffer is shorter than the output";
+    case TONO_REFUSED_STRING_BUFFER: return "the string buffer is shorter than 9,600 values";
+    case TONO_REFUSED_DRAWS: return "the draw count would pass 2^64 - 1";
+    case TONO_REFUSED_REPLY: return "the reply buffer is shorter than the listing";
+    default: return NULL;
+    }
+}
+
+/* What tono_play returns when the listing does not fit the reply. */
 #define TONO_REPLY_SHORT (-23)
 
-/* No listing is longer, in bytes: at most 40 for its G line, and 16 for each of 2,048 F lines. With a
+/* The length in bytes of the longest listing: 40 for its G line, and 16 for each of 2,048 F lines. With a
  * reply of this length tono_play never returns TONO_REPLY_SHORT. */
 #define TONO_LISTING_MOST 32808
 
-/* Plays the text score in score[0] .. score[score_len - 1] and writes its listing from reply[0] on.
+/* The most frames that a text score can have. */
+#define TONO_FRAMES_MOST 2048
+
+/* Plays the text score in score[0] .. score[score_len - 1] and writes its listing to the reply, from
+ * reply[0] on.
  *
- * Returns the listing's length in bytes, which is at least 4. The bytes of the reply after the listing
- * stay as they were. No 0 is put at the listing's end. Where the listing is longer than reply_len it
- * returns TONO_REPLY_SHORT, and no byte of the reply changes: call again with a larger reply.
+ * Returns the length of the listing in bytes, which is at least 4. The bytes of the reply after the listing
+ * are left as they were; no 0 is written at the end. If the listing is longer than reply_len, the call
+ * returns TONO_REPLY_SHORT and changes no byte of the reply: call again with a larger one.
  *
- * The listing of a score that is played is
+ * If the score is played, the listing is
  *     G <tab> state <tab> draws       the generator's end state, 16 hexadecimal digits, and its count
- *     F <tab> index <tab> bits        for each frame, from 0: the f32's 8 hexadecimal digits
- * and that of a score that is refused is the one line
- *     R <tab> number                  why it is refused: 15 or 16 for the text, else a score's refusal
- * Every line ends in a newline. A refusal is an answer and no failure: it has a listing like any other.
- * Any bytes may be passed as a score, with any length; text above 65,536 bytes is refused with 16.
+ *     F <tab> index <tab> bits        for each frame, from 0: the 8 hexadecimal digits of its float
+ * If the score is refused, the listing is the one line
+ *     R <tab> number                  why: a number of enum tono_refusal
+ * Every line ends in a newline. A refusal is an answer, not a failure: it has a listing like any other.
+ * The score may hold any bytes and have any length; more than 65,536 bytes are refused with
+ * TONO_REFUSED_TEXT_SIZE.
  *
- * What is lent: both buffers stay the caller's, and are used only until the call returns. The score is
- * read and never written; of the reply, only the listing's bytes are written.
- * What the caller owes: neither pointer is null, even where its length is 0; each points to as many
- * bytes as its length says; the two do not overlap; and no other thread writes to either, or reads the
- * reply, during the call.
+ * Both buffers are lent: they stay yours, and the call does not use them after it returns. It only reads
+ * the score, and of the reply it writes only the listing's bytes.
  *
- * The function keeps no state: a score gives the same listing at every call, and calls from several
- * threads at once, each with buffers of its own, do not disturb each other. It allocates nothing, makes
- * no system call and always returns.
+ * You must make sure that
+ *   - neither pointer is null, even if its length is 0;
+ *   - each buffer has as many bytes as its length says;
+ *   - the two buffers do not overlap;
+ *   - during the call no other thread writes to either buffer or reads the reply.
  *
- * It takes up to 96,824 bytes of stack, measured on every wave (compare/robust/stack.c); give a thread
- * that calls it 128 KiB or more beyond its own needs. */
+ * The call keeps no state: a score gives the same listing every time. Threads may call it at the same time,
+ * each with its own buffers. It allocates nothing, makes no system call and always returns.
+ *
+ * It uses up to 96,824 bytes of stack, measured on every wave (compare/robust/stack.c). Give a thread that
+ * calls it 128 KiB or more beyond its own needs. */
 int64_t tono_play(const uint8_t *score, size_t score_len, uint8_t *reply, size_t reply_len);
 
 #ifdef __cplusplus

@@ -1,7 +1,7 @@
 //! Every comparison in one run, with one table at the end.
 
 use crate::engine::Count;
-use crate::{helpers, kernels, note_calls, random, score_calls, texts, voices};
+use crate::{helpers, kernels, note_calls, progress, random, score_calls, texts, voices};
 use std::process::{Command, Stdio};
 
 const DAMAGED: &str = concat!(env!("CARGO_MANIFEST_DIR"), "/robust/run");
@@ -54,7 +54,10 @@ fn damaged(count: u64) -> Count {
 /// Compares one case in `scale`; a `seed` that is not 0 makes other random cases.
 pub fn run(scale: u64, seed: u64) -> Count {
     random::set_run(seed);
+    let mut part = 0;
     let counts = PARTS.map(|(name, with, run)| {
+        part += 1;
+        progress::set_part(format!("part {part} of {}, {name}, ", PARTS.len()));
         println!("-- {name} against {with}");
         run(scale)
     });

@@ -1,12 +1,14 @@
-//! Two functions on the same cases, in two threads.
+//! Two functions on the same cases, in several threads.
 
+use crate::progress::Progress;
+use std::env;
 use std::iter::Sum;
 use std::ops::Add;
 use std::sync::atomic::{AtomicU64, Ordering};
+use std::sync::OnceLock;
 use std::thread;
 use std::time::Instant;
 
-pub const THREADS: usize = 2;
 /// How many cases a thread takes at a time.
 const CHUNK: u64 = 1 << 16;
 /// How many differing cases of a function are printed.
@@ -104,12 +106,24 @@ pub fn same_values(ours: &[f32], theirs: &[f32]) -> Result<(), usize> {
     }
 }
 
+/// How many threads compare: `COMPARE_THREADS`, or as many as the machine runs at once.
+pub fn threads() -> usize {
+    static COUNT: OnceLock<usize> = OnceLock::new();
+    *COUNT.get_or_init(|| {
+        let asked = env::var("COMPARE_THREADS").ok();
+        match asked.and_then(|text| text.parse().ok()) {
+            Some(count) if count > 0 => count,
+            _ => thread::available_parallelism().map_or(1, usize::from),
+        }
+    })
+}
+
 /// What each thread's share of a work gives; the work is handed the thread's number.
 pub fn in_threads<R: Send>(work: impl Fn(u64) -> R + Sync) -> Vec<R> {
     let work = &work;
     thread::scope(|scope| {
         let spawn = |t| scope.spawn(move || work(t));
-        let threads: Vec<_> = (0..THREADS as u64).map(spawn).collect();
+        let threads: Vec<_> = (0..threads() as u64).map(spawn).collect();
         threads.into_iter().map(|t| t.join().unwrap()).collect()
     })
 }
@@ -136,7 +150,9 @@ pub fn compare<X: Answer, A: Answer>(
 ) -> Count {
     let begun = Instant::now();
     let next = AtomicU64::new(0);
-    let shares = in_threads(|_| compare_share(&next, cases, &library, &rust));
+    let progress = Progress::new(name, cases.count);
+    let shares = in_threads(|_| compare_share(&next, &progress, cases, &library, &rust));
+    drop(progress);
     let seconds = begun.elapsed().as_secs_f64();
     let differ: u64 = shares.iter().map(|d| d.count).sum();
     let cases = cases.count;
@@ -150,6 +166,7 @@ pub fn compare<X: Answer, A: Answer>(
 /// One thread's share: chunks of cases, as long as there are any left.
 fn compare_share<X: Answer, A: Answer>(
     next: &AtomicU64,
+    progress: &Progress,
     cases: &Cases<impl Fn(u64) -> X>,
     library: impl Fn(X) -> A,
     rust: impl Fn(X) -> A,
@@ -160,7 +177,8 @@ fn compare_share<X: Answer, A: Answer>(
         if first >= cases.count {
             return differing;
         }
-        for i in first..cases.count.min(first + CHUNK) {
+        let after = cases.count.min(first + CHUNK);
+        for i in first..after {
             let x = (cases.case)(i);
             let (ours, theirs) = (library(x), rust(x));
             if !ours.same(theirs) {
@@ -172,5 +190,6 @@ fn compare_share<X: Answer, A: Answer>(
                 }
             }
         }
+        progress.add(after - first);
     }
 }

@@ -19,6 +19,7 @@ mod lent;
 mod libm;
 mod long_scores;
 mod note_calls;
+mod progress;
 mod random;
 mod reference;
 mod replay_vectors;
@@ -67,7 +68,8 @@ const USAGE: &str =
        compare groove-vectors    writes the replay files of crates/groove_vectors
        compare voice-vectors     writes the replay files of crates/voice_vectors
        compare score-vectors     writes the replay files of crates/score_vectors
-       compare replay-vectors    writes the replay files of crates/replay";
+       compare replay-vectors    writes the replay files of crates/replay
+COMPARE_THREADS says how many threads compare; without it as many as the machine runs at once.";
 
 fn main() -> ExitCode {
     let words: Vec<String> = env::args().skip(1).collect();

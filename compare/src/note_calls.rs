@@ -1,8 +1,9 @@
 //! Note calls of every outcome, through `h_note` and by the reference.
 
-use crate::engine::{Count, THREADS};
+use crate::engine::{threads, Count};
 use crate::harness::{h_note, NoteArgs};
 use crate::lent::{Lent, LentNumber};
+use crate::progress::Progress;
 use crate::random::{state_at, Source};
 use crate::reference::{self, NoteCall};
 use crate::tried::{self, first_of, Tried};
@@ -140,7 +141,7 @@ fn longest() -> Case {
     case
 }
 
-fn share(first: u64, count: u64) -> Tried {
+fn share(first: u64, count: u64, progress: &Progress) -> Tried {
     let mut tried = Tried::default();
     let mut add = |name: String, case: Case| {
         let (number, differs) = case.tried();
@@ -149,13 +150,16 @@ fn share(first: u64, count: u64) -> Tried {
     if first == 0 {
         add("the longest note".to_string(), longest());
     }
-    for i in (first..count).step_by(THREADS) {
+    for i in (first..count).step_by(threads()) {
         add(format!("call {i}"), Case::random(i));
+        progress.add(1);
     }
     tried
 }
 
 /// Compares `count` calls.
 pub fn run(count: u64) -> Count {
-    tried::run("note calls", |thread| share(thread, count))
+    tried::run("note calls", count, |thread, progress| {
+        share(thread, count, progress)
+    })
 }

@@ -1,9 +1,10 @@
 //! Lists of score calls on one session, through `h_score` and by the tally.
 
-use crate::engine::{Count, THREADS};
+use crate::engine::{threads, Count};
 use crate::harness::{h_score, ScoreArgs};
 use crate::lent::{Lent, LentNumber};
 use crate::long_scores::{long, longest};
+use crate::progress::Progress;
 use crate::random::Source;
 use crate::reference::{self, Tally};
 use crate::score::Score;
@@ -184,25 +185,29 @@ fn calls_before(list: u64) -> u64 {
     36 * rounds + rest * (rest + 1) / 2
 }
 
-fn share(first: u64, count: u64) -> Tried {
+fn share(first: u64, count: u64, progress: &Progress) -> Tried {
     let mut tried = Tried::default();
     if first == 0 {
         try_long("the longest score", &longest(), &mut tried);
     }
-    for (place, name, _) in WAVES.iter().skip(first as usize).step_by(THREADS) {
+    for (place, name, _) in WAVES.iter().skip(first as usize).step_by(threads()) {
         try_long(&format!("a long {name}"), &[long(*place)], &mut tried);
     }
-    for list in (first..).step_by(THREADS) {
+    for list in (first..).step_by(threads()) {
         let before = calls_before(list);
         if before >= count {
             break;
         }
-        try_list(list, (1 + list % 8).min(count - before), &mut tried);
+        let calls = (1 + list % 8).min(count - before);
+        try_list(list, calls, &mut tried);
+        progress.add(calls);
     }
     tried
 }
 
 /// Compares `count` calls.
 pub fn run(count: u64) -> Count {
-    tried::run("score calls", |thread| share(thread, count))
+    tried::run("score calls", count, |thread, progress| {
+        share(thread, count, progress)
+    })
 }

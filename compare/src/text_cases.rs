@@ -263,6 +263,20 @@ pub fn waves() -> Vec<Case> {
     WAVES.iter().map(of).collect()
 }
 
+/// Each wave in one note that is held over 2,048 frames at 8,000 a second, about a quarter of a
+/// second, with its usual knobs: long enough that slow phases turn over, such as the flute's vibrato
+/// after 1 / 5.5 s.
+fn held_waves() -> Vec<Case> {
+    let of = |&(wave, name, _): &(u32, &str, _)| {
+        let mut held = usual(wave);
+        (held.tempo, held.steps_per_beat, held.swing, held.humanize) = (120.0, 4, 0.0, 0.0);
+        (held.out, held.env) = (2048, vec![0.01, 0.05, 0.7, 0.02, 0.3]);
+        held.words = note(0, 3, 440.0, 0.8).to_vec();
+        case(format!("{name}-held"), text_of(&held).bytes())
+    };
+    WAVES.iter().map(of).collect()
+}
+
 /// Each wave as long as a text may have it, through a chord, and with gains that are negative or large,
 /// of which some give NaNs.
 fn long_waves() -> Vec<Case> {
@@ -364,7 +378,7 @@ pub fn others() -> Vec<Case> {
     for more in [limits(), lines(), wholes(), knobs(), long_waves()] {
         cases.extend(more);
     }
-    for more in [last_draws(), sizes(), orders()] {
+    for more in [held_waves(), last_draws(), sizes(), orders()] {
         cases.extend(more);
     }
     cases

@@ -1,8 +1,9 @@
 //! Text scores through `tono_play` and by the reference.
 
-use crate::engine::{Count, THREADS};
+use crate::engine::{threads, Count};
 use crate::harness::tono_play;
 use crate::lent::Lent;
+use crate::progress::Progress;
 use crate::random::Source;
 use crate::text_random::text;
 use crate::text_reference::{c_call, listing, Listing, MOST_BYTES};
@@ -112,20 +113,23 @@ fn try_examples(tried: &mut Tried) {
     }
 }
 
-fn share(first: u64, count: u64) -> Tried {
+fn share(first: u64, count: u64, progress: &Progress) -> Tried {
     let mut tried = Tried::default();
     if first == 0 {
         try_examples(&mut tried);
     }
-    for number in (first..count).step_by(THREADS) {
+    for number in (first..count).step_by(threads()) {
         let mut s = Source::new(number);
         let text = text(&mut s);
         try_text(&format!("text {number}"), &text, &mut s, &mut tried);
+        progress.add(1);
     }
     tried
 }
 
 /// Compares `count` texts.
 pub fn run(count: u64) -> Count {
-    tried::run("texts", |thread| share(thread, count))
+    tried::run("texts", count, |thread, progress| {
+        share(thread, count, progress)
+    })
 }

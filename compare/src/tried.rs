@@ -1,6 +1,7 @@
 //! What a run of calls came to: how often each outcome came up, and what differs.
 
 use crate::engine::{in_threads, Count, SHOWN};
+use crate::progress::Progress;
 use crate::reference::NO_CALL;
 use crate::waves::WAVES;
 use std::collections::BTreeMap;
@@ -56,12 +57,14 @@ impl Tried {
     }
 }
 
-/// Has each thread try its share, and prints what came of it.
-pub fn run(what: &str, share: impl Fn(u64) -> Tried + Sync) -> Count {
+/// Has each thread try its share of about `count` cases, and prints what came of it.
+pub fn run(what: &str, count: u64, share: impl Fn(u64, &Progress) -> Tried + Sync) -> Count {
     let begun = Instant::now();
-    let all = in_threads(share)
+    let progress = Progress::new(what, count);
+    let all = in_threads(|thread| share(thread, &progress))
         .into_iter()
         .fold(Tried::default(), Tried::join);
+    drop(progress);
     let cases: u64 = all.outcomes.values().sum();
     let seconds = begun.elapsed().as_secs_f64();
     println!("{cases} {what}, {} differ, {seconds:.1} s", all.differ);

@@ -1,7 +1,8 @@
 //! The voices against the original's `seq_note_signal`, note by note.
 
-use crate::engine::{in_threads, same_values, Count, THREADS};
+use crate::engine::{in_threads, same_values, threads, Count};
 use crate::harness::{h_note, NoteArgs};
+use crate::progress::Progress;
 use crate::random::{draw, Source};
 use crate::waves::{voice_of, WAVES};
 use std::time::Instant;
@@ -82,16 +83,24 @@ pub fn first_difference(ours: &(Vec<f32>, u64), theirs: &(Vec<f32>, u64)) -> Opt
     frame.or((ours.1 != theirs.1).then_some(ours.0.len()))
 }
 
-fn share(place: u32, wave: SeqWave, first: u64, count: u64) -> (u64, Option<(u64, usize)>) {
+/// One thread's share of the notes of a wave: how many differ, and the first that does.
+fn share(
+    place: u32,
+    wave: SeqWave,
+    first: u64,
+    count: u64,
+    progress: &Progress,
+) -> (u64, Option<(u64, usize)>) {
     let mut string = vec![0.0; 9600];
     let (mut differ, mut shown) = (0, None);
-    for i in (first..count).step_by(THREADS) {
+    for i in (first..count).step_by(threads()) {
         let note = Note::random(i * 32 + place as u64);
         let ours = note.ours(place, &mut string);
         if let Some(at) = first_difference(&ours, &note.theirs(wave)) {
             differ += 1;
             shown = shown.or(Some((i, at)));
         }
+        progress.add(1);
     }
     (differ, shown)
 }
@@ -101,7 +110,9 @@ pub fn run(count: u64) -> Count {
     let mut all = Count::default();
     for (place, name, wave) in WAVES {
         let begun = Instant::now();
-        let shares = in_threads(|thread| share(place, wave, thread, count));
+        let progress = Progress::new(name, count);
+        let shares = in_threads(|thread| share(place, wave, thread, count, &progress));
+        drop(progress);
         let differ: u64 = shares.iter().map(|s| s.0).sum();
         let seconds = begun.elapsed().as_secs_f64();
         println!("{name:9} {count:>8} notes, {differ} differ, {seconds:.1} s");

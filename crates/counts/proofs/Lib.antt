@@ -1,3 +1,5 @@
+pub mod Early
 pub mod Thump
 pub mod Periods
 pub mod Few
+pub mod Drawing

@@ -1,21 +1,20 @@
--- A string's period: the code's upper bound of the clamp is rate / 2, and the period is at least 2 and at most 9,600, whatever the pitch is, also a NaN.
+-- A string's period at a rate of the domain is at least 2 and at most 9,600, whatever the pitch is, also a NaN.
 -- A clamped pitch is at least 20, so the quotient is at most 192,000 / 20 before it is rounded, and 9,600 is an f32. Assumes nothing.
 use mathlib.Core.Path.{_≡_, refl, sym, ap, _∙_, subst}
 use mathlib.Core.Logic.{_⊎_, inl, inr}
 use Prim.Native.Nat.{ℕ, _*_, _≤_, _<_, max}
 use native.Mathlib.Nat.{lt-of-lt-of-le, zero-lt-suc, mul-le-mul-right}
 use native.Mathlib.Omega.{arith}
-use mathlib.Core.Bool.{Bool, false, cond}
+use mathlib.Core.Bool.{false}
 use lib.Dec.{lit≤}
-use borrow.Author.Tests.{lt-ltb}
 use lib.Ieee.{Float, nan, inf, fin, Format, binary32, div, ofBits, toUnsigned}
 use lib.Ieee.Exact.{HasValue}
 use lib.Ieee.Back.{round-whole}
 use Rattle.ieee.specs.Numbers.{c2, c20, f32}
 use Rattle.ieee.specs.Binary32.{_⊘_}
-use Rattle.ieee.specs.Order.{maxOf, clampOf}
+use Rattle.ieee.specs.Order.{clampOf}
 use Rattle.ieee.specs.Whole.{whole, roundOf}
-use Rattle.ieee.proofs.Value.{div-value, lt-value}
+use Rattle.ieee.proofs.Value.{div-value}
 use Rattle.ieee.proofs.Exactly.{round-value}
 use Rattle.ieee.proofs.Bounds.{AtMost}
 use Rattle.ieee.proofs.Cut.{rounded-at-most, cut-at-most}
@@ -60,14 +59,6 @@ module _ (rate : ℕ) (r : Rate rate) where
       same : (rate : ℕ) → rate * 1 * 2 ≡ rate * 2
       same rate = omega arith
 
-  pub highest-is : maxOf (f32 rate ⊘ c2) c20 ≡ f32 rate ⊘ c2
-  highest-is =
-      ap (λ (t : Bool). cond t (f32 rate ⊘ c2) c20)
-      (lt-value c20 (f32 rate ⊘ c2) 20 1 (rate * 1) (2 * 1) (zero-lt-suc 0) (zero-lt-suc 1) c20-value half-value ∙ lt-ltb (20 * (2 * 1)) (rate * 1 * 1) (over rate (r .least)))
-    where
-      over : (rate : ℕ) → 8000 ≤ rate → 40 < rate * 1 * 1
-      over rate h = omega arith
-
   -- ---- the period
   module _ (x : Float) where
     abbrev pitch : Float
@@ -90,9 +81,12 @@ module _ (rate : ℕ) (r : Rate rate) where
         at-most : (rate n e : ℕ) → rate ≤ 192000 → 20 * e ≤ n * 1 → rate * e * 1 ≤ 9600 * (n * 1)
         at-most rate n e m l = omega (arith, mul-le-mul-right e m)
 
+    none : toUnsigned 64 (roundOf (f32 rate ⊘ nan)) ≡ 0
+    none = ap (λ (q : Float). toUnsigned 64 (roundOf q)) (div-nan binary32 (f32 rate)) ∙ cut-nan
+
     cut-le : toUnsigned 64 (roundOf (f32 rate ⊘ pitch)) ≤ 9600
     cut-le = elim clamped [
-      | inl e ↦ subst (λ (k : ℕ). k ≤ 9600) (sym (ap (λ (y : Float). toUnsigned 64 (roundOf (f32 rate ⊘ y))) e ∙ ap (λ (q : Float). toUnsigned 64 (roundOf q)) (div-nan binary32 (f32 rate)) ∙ cut-nan)) (lit≤ tt)
+      | inl e ↦ subst (λ (k : ℕ). k ≤ 9600) (sym (ap (λ (y : Float). toUnsigned 64 (roundOf (f32 rate ⊘ y))) e ∙ none)) (lit≤ tt)
       | inr v ↦ cut-at-most 64 (roundOf (f32 rate ⊘ pitch)) 9600 (rounded-at-most (f32 rate ⊘ pitch) 9600 (quotient v))
     ]
 

@@ -1,12 +1,11 @@
 // The draw counts, by wave.
 ghost use mathlib.Core.Path.{_≡_};
-ghost use Rattle.dsl.specs.Domain.{Rate};
 ghost use Rattle.counts.specs.Draws.{thumpFrames, drawsOf};
 use crate::period::string_period;
 use dsl::SeqWave;
 
-// The frames in which the piano's hammer is heard, 0.006 seconds of them: those i with
-// i / rate < 0.006 in f32 (the law `thump-is`).
+// The frames in which the piano's hammer is heard, 0.006 seconds of them: at a rate of the domain those
+// i with i / rate < 0.006 in f32 (the law `thump-is`).
 fn thump_frames(rate: u32) -> usize
     ensures { λ r. ⌜ r ≡ thumpFrames rate ⌝ }
 {
@@ -15,7 +14,6 @@ fn thump_frames(rate: u32) -> usize
 
 // The draws of a note of some sounded frames, whose pitch at the first of them is `first`.
 pub fn draw_count(wave: SeqWave, rate: u32, first: f32, frames: usize) -> usize
-    requires { ⌜ Rate rate ⌝ }
     ensures { λ r. ⌜ r ≡ drawsOf wave rate first frames ⌝ }
 {
     match wave {

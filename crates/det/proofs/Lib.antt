@@ -1,3 +1,4 @@
+pub mod Casts
 pub mod Numbers
 pub mod Powers
 pub mod Pattern

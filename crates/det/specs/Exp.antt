@@ -4,9 +4,9 @@ use mathlib.Core.Bool.{false, cond}
 use lib.IntN.{ℤ, pos, negsuc, natAbs, _+ℤ_}
 use lib.Signed.{ltZ}
 use lib.Ieee.{Float, inf, binary64, ofBits, lt, toSigned}
-use Rattle.ieee.specs.Binary64.{_⊕_, _⊖_, _⊗_, _⊘_}
+use Rattle.ieee.specs.Binary64.{_⊞_, _⊟_, _⊠_, _⧄_}
 use Rattle.ieee.specs.Whole.{roundOf}
-use Rattle.ieee.specs.Numbers64.{c0, c1, c2}
+use Rattle.ieee.specs.Numbers64.{d0, d1, d2}
 
 -- ln 2 in two parts
 -- 6.93147180369123816490e-01
@@ -27,7 +27,7 @@ unfoldable pub ldexp2Of : ℤ → Float
 ldexp2Of k =
     cond (ltZ (pos 1023) k) (inf false)
     (cond (ltZ k (negsuc 1022))
-    (cond (ltZ k (negsuc 1073)) c0
+    (cond (ltZ k (negsuc 1073)) d0
     (ofBits binary64 (2 ^ natAbs (k +ℤ pos 1074))))
     (ofBits binary64 (natAbs (k +ℤ pos 1023) * 2 ^ 52)))
 
@@ -62,19 +62,19 @@ EXP·MIN = ofBits binary64 0xc087_4910_d52d_3050
 -- 2^k · exp(r), r being x less k · ln 2
 unfoldable pub expFrom : Float → Float → Float
 expFrom x k =
-    let r = x ⊖ k ⊗ LN2·HI ⊖ k ⊗ LN2·LO in
-    let t = r ⊗ r in
-    let c = r ⊖ t ⊗ (P1 ⊕ t ⊗ (P2 ⊕ t ⊗ (P3 ⊕ t ⊗ (P4 ⊕ t ⊗ P5)))) in
-    let y = c1 ⊖ (r ⊗ c ⊘ (c ⊖ c2) ⊖ r) in
-    y ⊗ ldexp2Of (toSigned 63 k)
+    let r = x ⊟ k ⊠ LN2·HI ⊟ k ⊠ LN2·LO in
+    let t = r ⊠ r in
+    let c = r ⊟ t ⊠ (P1 ⊞ t ⊠ (P2 ⊞ t ⊠ (P3 ⊞ t ⊠ (P4 ⊞ t ⊠ P5)))) in
+    let y = d1 ⊟ (r ⊠ c ⧄ (c ⊟ d2) ⊟ r) in
+    y ⊠ ldexp2Of (toSigned 63 k)
 
 -- fn exp, past its two tests
 unfoldable pub expReduced : Float → Float
-expReduced x = expFrom x (roundOf (x ⊗ INV·LN2))
+expReduced x = expFrom x (roundOf (x ⊠ INV·LN2))
 
 -- fn exp
-unfoldable pub expOf : Float → Float
-expOf x =
+unfoldable pub exp64 : Float → Float
+exp64 x =
     cond (lt EXP·MAX x) (inf false)
-    (cond (lt x EXP·MIN) c0
+    (cond (lt x EXP·MIN) d0
     (expReduced x))

@@ -1,3 +1,4 @@
+pub mod Rounded
 pub mod Exp
 pub mod Ln
 pub mod Pow

@@ -4,8 +4,8 @@ use mathlib.Core.Bool.{true, cond}
 use lib.Bits.{bitAnd, bitOr}
 use lib.IntN.{ℤ, pos, _+ℤ_, _-ℤ_}
 use lib.Ieee.{Float, nan, inf, binary64, ofBits, toBits, isNan, neg, lt, eq, ofInt}
-use Rattle.ieee.specs.Binary64.{_⊕_, _⊖_, _⊗_, _⊘_}
-use Rattle.ieee.specs.Numbers64.{c0, c0·5, c1, c2}
+use Rattle.ieee.specs.Binary64.{_⊞_, _⊟_, _⊠_, _⧄_}
+use Rattle.ieee.specs.Numbers64.{d0, d0·5, d1, d2}
 use Rattle.det.specs.Exp.{LN2·HI, LN2·LO}
 
 -- 6.666666666666735130e-01
@@ -45,8 +45,8 @@ abbrev pub NEAR·2·64 : Float
 NEAR·2·64 = ofBits binary64 0x43ef_ffff_ffff_ffe7
 
 -- 64.0
-abbrev pub c64 : Float
-c64 = ofBits binary64 0x4050_0000_0000_0000
+abbrev pub d64 : Float
+d64 = ofBits binary64 0x4050_0000_0000_0000
 
 -- SQRT_2, 1.41421356237309504880168872420969808
 abbrev pub SQRT·2 : Float
@@ -55,20 +55,20 @@ SQRT·2 = ofBits binary64 0x3ff6_a09e_667f_3bcd
 -- from `let f` on: the logarithm of mant * 2 ^ (exp_bits + scale_k)
 unfoldable pub lnSeries : Float → ℤ → Float → Float
 lnSeries mant expBits scaleK =
-    let f = mant ⊖ c1 in
-    let s = f ⊘ (c2 ⊕ f) in
-    let z = s ⊗ s in
-    let w = z ⊗ z in
-    let t1 = w ⊗ (LG2 ⊕ w ⊗ (LG4 ⊕ w ⊗ LG6)) in
-    let t2 = z ⊗ (LG1 ⊕ w ⊗ (LG3 ⊕ w ⊗ (LG5 ⊕ w ⊗ LG7))) in
-    let r = t2 ⊕ t1 in
-    let hfsq = c0·5 ⊗ f ⊗ f in
-    let k = ofInt binary64 expBits ⊕ scaleK in
-    k ⊗ LN2·HI ⊕ (f ⊖ (hfsq ⊖ (s ⊗ (hfsq ⊕ r) ⊕ k ⊗ LN2·LO)))
+    let f = mant ⊟ d1 in
+    let s = f ⧄ (d2 ⊞ f) in
+    let z = s ⊠ s in
+    let w = z ⊠ z in
+    let t1 = w ⊠ (LG2 ⊞ w ⊠ (LG4 ⊞ w ⊠ LG6)) in
+    let t2 = z ⊠ (LG1 ⊞ w ⊠ (LG3 ⊞ w ⊠ (LG5 ⊞ w ⊠ LG7))) in
+    let r = t2 ⊞ t1 in
+    let hfsq = d0·5 ⊠ f ⊠ f in
+    let k = ofInt binary64 expBits ⊞ scaleK in
+    k ⊠ LN2·HI ⊞ (f ⊟ (hfsq ⊟ (s ⊠ (hfsq ⊞ r) ⊞ k ⊠ LN2·LO)))
 
 -- the fold: a mantissa above √2 is halved, and the exponent is one more
 abbrev pub foldMant : Float → Float
-foldMant mant = cond (lt SQRT·2 mant) (mant ⊗ c0·5) mant
+foldMant mant = cond (lt SQRT·2 mant) (mant ⊠ d0·5) mant
 
 abbrev pub foldExp : Float → ℤ → ℤ
 foldExp mant expBits = cond (lt SQRT·2 mant) (expBits +ℤ pos 1) expBits
@@ -82,10 +82,10 @@ lnSplit x scaleK =
     lnSeries (foldMant mant) (foldExp mant expBits) scaleK
 
 -- fn ln
-unfoldable pub lnOf : Float → Float
-lnOf x =
+unfoldable pub ln64 : Float → Float
+ln64 x =
     cond (isNan x) nan
-    (cond (lt x c0) nan
-    (cond (eq x c0) (inf true)
-    (cond (lt x MIN·POSITIVE) (lnSplit (x ⊗ NEAR·2·64) (neg c64))
-    (lnSplit x c0))))
+    (cond (lt x d0) nan
+    (cond (eq x d0) (inf true)
+    (cond (lt x MIN·POSITIVE) (lnSplit (x ⊠ NEAR·2·64) (neg d64))
+    (lnSplit x d0))))

@@ -1,14 +1,14 @@
 -- fn powf of det.rs.
 use mathlib.Core.Bool.{false, cond}
 use lib.Ieee.{Float, nan, inf, lt, eq}
-use Rattle.ieee.specs.Binary64.{_⊗_}
-use Rattle.ieee.specs.Numbers64.{c0, c1}
-use Rattle.det.specs.Exp.{expOf}
-use Rattle.det.specs.Ln.{lnOf}
+use Rattle.ieee.specs.Binary64.{_⊠_}
+use Rattle.ieee.specs.Numbers64.{d0, d1}
+use Rattle.det.specs.Exp.{exp64}
+use Rattle.det.specs.Ln.{ln64}
 
-unfoldable pub powfOf : Float → Float → Float
-powfOf x y =
-    cond (eq y c0) c1
-    (cond (eq x c0) (cond (lt c0 y) c0 (inf false))
-    (cond (lt x c0) nan
-    (expOf (y ⊗ lnOf x))))
+unfoldable pub powf64 : Float → Float → Float
+powf64 x y =
+    cond (eq y d0) d1
+    (cond (eq x d0) (cond (lt d0 y) d0 (inf false))
+    (cond (lt x d0) nan
+    (exp64 (y ⊠ ln64 x))))

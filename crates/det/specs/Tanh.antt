@@ -1,9 +1,9 @@
 -- fn expm1_small and fn tanh of det.rs.
 use mathlib.Core.Bool.{cond}
 use lib.Ieee.{Float, nan, binary64, ofBits, neg, isNan, lt}
-use Rattle.ieee.specs.Binary64.{_⊕_, _⊖_, _⊗_, _⊘_}
-use Rattle.ieee.specs.Numbers64.{c0, c0·5, c1, c2}
-use Rattle.det.specs.Exp.{expOf}
+use Rattle.ieee.specs.Binary64.{_⊞_, _⊟_, _⊠_, _⧄_}
+use Rattle.ieee.specs.Numbers64.{d0, d0·5, d1, d2}
+use Rattle.det.specs.Exp.{exp64}
 
 -- INV_FACT, the quotients as f64 has them; its first two are 1.0 and 0.5
 -- 1.0 / 6.0
@@ -45,29 +45,29 @@ F11 = ofBits binary64 0x3e5a_e645_67f5_44e4
 -- fn expm1_small: the loop from the last coefficient to the first, written out
 unfoldable pub expm1Small : Float → Float
 expm1Small x =
-    x ⊗ (c1 ⊕ x ⊗ (c0·5 ⊕ x ⊗ (F3 ⊕ x ⊗ (F4 ⊕ x ⊗ (F5 ⊕ x ⊗ (F6 ⊕ x ⊗ (F7 ⊕ x ⊗ (F8 ⊕ x ⊗ (F9 ⊕ x ⊗ (F10 ⊕ x ⊗ F11))))))))))
+    x ⊠ (d1 ⊞ x ⊠ (d0·5 ⊞ x ⊠ (F3 ⊞ x ⊠ (F4 ⊞ x ⊠ (F5 ⊞ x ⊠ (F6 ⊞ x ⊠ (F7 ⊞ x ⊠ (F8 ⊞ x ⊠ (F9 ⊞ x ⊠ (F10 ⊞ x ⊠ F11))))))))))
 
 -- 20.0 and 0.25
-abbrev pub c20 : Float
-c20 = ofBits binary64 0x4034_0000_0000_0000
+abbrev pub d20 : Float
+d20 = ofBits binary64 0x4034_0000_0000_0000
 
-abbrev pub c0·25 : Float
-c0·25 = ofBits binary64 0x3fd0_0000_0000_0000
+abbrev pub d0·25 : Float
+d0·25 = ofBits binary64 0x3fd0_0000_0000_0000
 
 -- fn tanh, from the pair (x, sign) on
 unfoldable pub tanhSigned : Float → Float → Float
 tanhSigned x sign =
-    cond (lt c20 x) sign
-    (cond (lt x c0·25) (let e = expm1Small (c2 ⊗ x) in sign ⊗ (e ⊘ (e ⊕ c2)))
-    (sign ⊗ (c1 ⊖ c2 ⊘ (expOf (c2 ⊗ x) ⊕ c1))))
+    cond (lt d20 x) sign
+    (cond (lt x d0·25) (let e = expm1Small (d2 ⊠ x) in sign ⊠ (e ⧄ (e ⊞ d2)))
+    (sign ⊠ (d1 ⊟ d2 ⧄ (exp64 (d2 ⊠ x) ⊞ d1))))
 
 -- the pair (x, sign)
 abbrev pub magnitudeOf : Float → Float
-magnitudeOf x = cond (lt x c0) (neg x) x
+magnitudeOf x = cond (lt x d0) (neg x) x
 
 abbrev pub unitSign : Float → Float
-unitSign x = cond (lt x c0) (neg c1) c1
+unitSign x = cond (lt x d0) (neg d1) d1
 
 -- fn tanh
-unfoldable pub tanhOf : Float → Float
-tanhOf x = cond (isNan x) nan (tanhSigned (magnitudeOf x) (unitSign x))
+unfoldable pub tanh64 : Float → Float
+tanh64 x = cond (isNan x) nan (tanhSigned (magnitudeOf x) (unitSign x))

@@ -1,8 +1,9 @@
 // Powers of two and the exponential: e^x = 2^k · e^r with k the whole number nearest to x / ln 2.
 ghost use mathlib.Core.Path.{_≡_};
 ghost use lib.Dec.{T};
-ghost use Rattle.det.specs.Exp.{ldexp2Of, expFrom, expReduced, expOf};
-ghost use Rattle.float.specs.Rounded.{noFraction};
+ghost use Rattle.det.specs.Exp.{ldexp2Of, expFrom, expReduced, exp64};
+ghost use Rattle.det.specs.Rounded.{noFraction};
+use crate::rounded::rounded_to_i64;
 use crate::special::infinity;
 use float::Near;
 
@@ -52,7 +53,7 @@ fn exp_from(x: f64, k: f64) -> f64
     let t = r * r;
     let c = r - t * (P1 + t * (P2 + t * (P3 + t * (P4 + t * P5))));
     let y = 1.0 - ((r * c) / (c - 2.0) - r);
-    y * ldexp2(float::rounded_to_i64(k))
+    y * ldexp2(rounded_to_i64(k))
 }
 
 // k is x / ln 2, rounded: above zero, below it, and where `near_f64` gives nothing.
@@ -72,7 +73,7 @@ fn exp_reduced(x: f64) -> f64
 }
 
 pub fn exp(x: f64) -> f64
-    ensures { λ r. ⌜ r ≡ expOf x ⌝ }
+    ensures { λ r. ⌜ r ≡ exp64 x ⌝ }
 {
     if x > EXP_MAX {
         return infinity();

@@ -1,6 +1,6 @@
 // The hyperbolic tangent, by a series near zero and by exp elsewhere.
 ghost use mathlib.Core.Path.{_≡_};
-ghost use Rattle.det.specs.Tanh.{expm1Small, tanhSigned, magnitudeOf, unitSign, tanhOf};
+ghost use Rattle.det.specs.Tanh.{expm1Small, tanhSigned, magnitudeOf, unitSign, tanh64};
 use crate::exponential::exp;
 use crate::special::not_a_number;
 
@@ -70,7 +70,7 @@ fn unit_sign(x: f64) -> f64
 }
 
 pub fn tanh(x: f64) -> f64
-    ensures { λ r. ⌜ r ≡ tanhOf x ⌝ }
+    ensures { λ r. ⌜ r ≡ tanh64 x ⌝ }
 {
     if x != x {
         return not_a_number();

@@ -7,6 +7,7 @@ mod exponential; // exponential.rt: powers of two, exp
 mod hyperbolic; // hyperbolic.rt: tanh
 mod logarithm; // logarithm.rt: ln
 mod power; // power.rt: powf
+mod rounded; // rounded.rt: the cast of a rounded f64
 mod single; // single.rt: the f32 wrappers
 mod special; // special.rt: infinity and NaN
 

@@ -5,7 +5,7 @@ ghost use lib.Dec.{T};
 ghost use Prim.Native.Nat.{_<_};
 ghost use lib.Signed.{mag};
 ghost use lib.Ieee.{isNan};
-ghost use Rattle.det.specs.Ln.{lnSeries, foldMant, foldExp, lnSplit, lnOf};
+ghost use Rattle.det.specs.Ln.{lnSeries, foldMant, foldExp, lnSplit, ln64};
 use crate::exponential::LN2_HI;
 use crate::exponential::LN2_LO;
 use crate::special::infinity;
@@ -80,7 +80,7 @@ fn ln_split(x: f64, scale_k: f64) -> f64
 // A NaN for a NaN and below 0, minus infinity at 0. A subnormal is first brought to the normal
 // range.
 pub fn ln(x: f64) -> f64
-    ensures { λ r. ⌜ r ≡ lnOf x ⌝ }
+    ensures { λ r. ⌜ r ≡ ln64 x ⌝ }
 {
     if x != x {
         return not_a_number();

@@ -2,4 +2,5 @@ pub mod Places
 pub mod Sizing
 pub mod Magnitude
 pub mod Reach
+pub mod Cases
 pub mod Exact

@@ -1,15 +1,16 @@
 -- The numbers of the knob sets and of an envelope, in the order of node.rs and mod.rs.
 use mathlib.Core.List.{List, [], _∷_}
 use lib.Ieee.{Float}
-use Rattle.dsl.specs.declared.knobs.FmKnobs.{FmKnobs}
-use Rattle.dsl.specs.declared.knobs.PluckKnobs.{PluckKnobs}
-use Rattle.dsl.specs.declared.knobs.PianoKnobs.{PianoKnobs}
-use Rattle.dsl.specs.declared.knobs.BassKnobs.{BassKnobs}
 use Rattle.dsl.specs.declared.knobs.Adsr.{Adsr}
+use Rattle.dsl.specs.declared.knobs.SeqVoice.{SeqVoice}
 
 -- "a knob of any of the four sets"
-abbrev pub knobList : FmKnobs → PluckKnobs → PianoKnobs → BassKnobs → List Float
-knobList fm pluck piano bass =
+abbrev pub knobList : SeqVoice → List Float
+knobList v =
+    let fm = v .fm in
+    let pluck = v .pluck in
+    let piano = v .piano in
+    let bass = v .bass in
     fm .«fm_ratio» ∷ fm .«fm_index» ∷ fm .«fm_strike»
     ∷ pluck .«pluck_decay» ∷ pluck .«pluck_body» ∷ pluck .«pluck_pick» ∷ pluck .«pluck_tone»
     ∷ piano .«piano_hammer» ∷ piano .«piano_strike» ∷ piano .«piano_inharm» ∷ piano .«piano_detune» ∷ piano .«piano_decay»

@@ -59,9 +59,13 @@ pub struct SeqVoice {
 }
 
 // Whether each knob of the four sets is sized.
-pub fn knobs_sized(fm: FmKnobs, pluck: PluckKnobs, piano: PianoKnobs, bass: BassKnobs) -> bool
-    ensures { λ r. ⌜ r ≡ allSized (knobList fm pluck piano bass) ⌝ }
+pub fn knobs_sized(voice: SeqVoice) -> bool
+    ensures { λ r. ⌜ r ≡ allSized (knobList voice) ⌝ }
 {
+    let fm = voice.fm;
+    let pluck = voice.pluck;
+    let piano = voice.piano;
+    let bass = voice.bass;
     let values = [
         fm.fm_ratio,
         fm.fm_index,

@@ -13,7 +13,7 @@ pub struct SeqNote {
 // What five words say: a note, or a kind that there is not.
 pub enum Decoded {
     Note(SeqNote),
-    Kind,
+    NoKind,
 }
 
 impl SeqNote {
@@ -40,6 +40,6 @@ impl SeqNote {
                 gain: rounding::f32_from_bits(gain),
             });
         }
-        Decoded::Kind
+        Decoded::NoKind
     }
 }

@@ -2,7 +2,7 @@
 ghost use mathlib.Core.Path.{_≡_};
 ghost use Prim.Native.Nat.{_+_};
 ghost use lib.ListN.{length};
-ghost use Rattle.dsl.specs.Pitch.{pitchAt, reaches};
+ghost use Rattle.dsl.specs.Pitch.{pitchAt, passes, reaches};
 ghost use Rattle.dsl.specs.Sized.{pitchSized};
 use crate::sized::is_sized;
 
@@ -20,6 +20,21 @@ impl Pitch {
         match self {
             Pitch::Const(x) => is_sized(x),
             Pitch::Curve(_) => true,
+        }
+    }
+
+    // Whether a curve of n frames passes the end of a lane of `lane` values.
+    pub fn passes(self, lane: usize, n: usize) -> bool
+        ensures { λ r. ⌜ r ≡ passes self lane n ⌝ }
+    {
+        match self {
+            Pitch::Const(_) => false,
+            Pitch::Curve(offset) => {
+                if n > lane {
+                    return true;
+                }
+                offset > lane - n
+            }
         }
     }
 

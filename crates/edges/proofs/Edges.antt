@@ -14,7 +14,7 @@ use Rattle.dsl.specs.declared.wave.SeqWave.the-variants.{Piano}
 use Rattle.dsl.specs.declared.pitch.Pitch.the-variants.{Const}
 use Rattle.dsl.specs.declared.note.SeqNote.{SeqNote}
 use Rattle.dsl.specs.Sized.{c65536}
-use Rattle.groove.specs.Timing.{stepDur, swingDelay, humanOf, grooveOf}
+use Rattle.groove.specs.Timing.{stepDur, swingDelay, humanDelay, humanGain, grooveOf}
 use Rattle.groove.specs.Length.{lengthOf}
 use Rattle.counts.specs.Period.{periodOf}
 use Rattle.counts.specs.Draws.{drawsOf}
@@ -60,5 +60,5 @@ pub edges
     × (narrowOf (fin false (2 ^ 24 + 3) (negsuc 23)) ≡ fin false (2 ^ 22 + 1) (negsuc 21))
     -- "`poly_blep`(0, 0.25): −1"
     × (polyBlep (fin false 0 (pos 0)) (fin false 1 (negsuc 1)) ≡ fin true 1 (pos 0))
-unfolding biOf whole narrowOf polyBlep periodOf drawsOf stepDur swingDelay humanOf grooveOf lengthOf ofBits ofInt toUnsigned round sum odd size add sub neg mul div lt le
+unfolding biOf whole narrowOf polyBlep periodOf drawsOf stepDur swingDelay humanDelay humanGain grooveOf lengthOf ofBits ofInt toUnsigned round sum odd size add sub neg mul div lt le
 edges = (refl, refl, refl, refl, refl, refl, refl, refl, refl, refl, refl, refl, refl, refl, refl, refl, refl)

@@ -1,6 +1,7 @@
 // A note's envelope: `adsr_env` of dsp.rs, and `adsr` of render/mod.rs as a reading at a frame.
 ghost use mathlib.Core.Path.{_≡_};
 ghost use Prim.Native.Nat.{_≤_};
+ghost use Rattle.dsl.specs.Domain.{Frames};
 ghost use Rattle.envelope.specs.Envelope.{shareOf, levelOf, adsrEnv, releaseStart};
 use dsl::Adsr;
 
@@ -47,7 +48,7 @@ pub fn adsr_env(t: f32, env: Adsr, rel_start: f32) -> f32
 // Where the release of a note of `len` frames starts, in seconds: the envelope spans the whole length,
 // however much of it sounds.
 pub fn release_start(env: Adsr, len: usize, rate: u32) -> f32
-    requires { ⌜ len ≤ 16777216 ⌝ }
+    requires { ⌜ Frames len ⌝ }
     ensures { λ r. ⌜ r ≡ releaseStart env len rate ⌝ }
 {
     let srf = std::num::nearest_u32_to_f32(rate);

@@ -2,4 +2,3 @@ mod Wholes
 pub mod Signs
 mod Casting
 pub mod Signed
-pub mod Casts

@@ -16,9 +16,9 @@ use Rattle.ieee.specs.Whole.{whole, cut, raised, halfUp, roundOf, floorOf}
 use Rattle.ieee.proofs.Value.{zero-exp}
 use Rattle.ieee.proofs.Between.{neg-neg}
 use Rattle.ieee.proofs.Units.{fits-parts}
-use Rattle.float.specs.Near.{Rounds}
+use Rattle.float.specs.Near.{nearby, nearOf}
 use Rattle.float.specs.declared.whole_f64.Near.{Near}
-use Rattle.float.specs.declared.whole_f64.Near.the-variants.{Whole}
+use Rattle.float.specs.declared.whole_f64.Near.the-variants.{Whole, Other}
 use Rattle.float.proofs.Wholes.{H, H-twice}
 
 abbrev plus-zero : Float
@@ -65,12 +65,24 @@ large f g (fin false m (negsuc k)) fit p t =
 pub large-negative : (f : Format) (g : ℕ → ℕ → ℕ) (x : Float) → T (fits f x) → lt plus-zero (neg x) ≡ true → lt (neg x) (fin false 1 (pos (prec f - 1))) ≡ false → x ≡ whole g x
 large-negative f g x fit p t = sym (neg-neg x) ∙ ap neg (large f g (neg x) (neg-fits f x fit) p t) ∙ neg-whole g x
 
--- ---- what `near_f64` gives of x, and of its negative
-pub near-whole : (x : Float) (r : Near) (n : Float) → Rounds x r → r ≡ Whole n → n ≡ roundOf x
-unfolding Rounds
-near-whole x r n h e = subst (Rounds x) e h
+-- ---- what `near_f64` gives: x rounded where its test holds, and then the number of a given one
+pub near-given : (x n : Float) → nearby x ≡ true → n ≡ roundOf x → Whole n ≡ nearOf x
+unfolding nearOf
+near-given x n t e = if-true _ t (ap Whole e)
 
-pub near-whole-mirrored : (x : Float) (r : Near) (n : Float) → Rounds (neg x) r → r ≡ Whole n → neg n ≡ roundOf x
+pub near-none : (x : Float) → nearby x ≡ false → Other ≡ nearOf x
+unfolding nearOf
+near-none x t = if-false _ t refl
+
+pub near-whole : (x : Float) (r : Near) (n : Float) → r ≡ nearOf x → r ≡ Whole n → n ≡ roundOf x
+unfolding nearOf
+near-whole x r n h e = go (nearby x) (sym e ∙ h)
+  where
+    go : (b : Bool) → Whole n ≡ cond b (Whole (roundOf x)) Other → n ≡ roundOf x
+    go true p = cc
+    go false p = let z : _≡_ {A = ℕ} 0 1 = cc in absurd (let no : ⊥ = omega arith in no)
+
+pub near-whole-mirrored : (x : Float) (r : Near) (n : Float) → r ≡ nearOf (neg x) → r ≡ Whole n → neg n ≡ roundOf x
 near-whole-mirrored x r n h e = ap neg (near-whole (neg x) r n h e) ∙ neg-whole halfUp x
 
 -- ---- neither above zero nor below it: a zero or a NaN

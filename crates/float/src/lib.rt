@@ -1,10 +1,8 @@
 // IEEE 754 on f32 and f64: what Rust has as methods and casts and Rattle does not. Every function
-// has a result for every bit pattern, and none but the casts of a rounded f64 asks anything of its
-// caller. Each contract is one equation with a definition of the crate `ieee`, in which one NaN
-// stands for all of them; `near_f64` gives a number of which that holds, or nothing.
+// has a result for every bit pattern and asks nothing of its caller. Each contract is one equation
+// with a definition, in which one NaN stands for all of them.
 mod cast; // cast.rt: floats to integers
 mod order; // order.rt: max, min, clamp, abs
-mod rounded; // rounded.rt: casts of a rounded f64
 mod whole_f32; // whole_f32.rt: floor, trunc, round and fract of an f32
 mod whole_f64; // whole_f64.rt: floor, trunc and round of an f64
 
@@ -14,8 +12,6 @@ pub use order::abs_f32;
 pub use order::clamp_f32;
 pub use order::max_f32;
 pub use order::min_f32;
-pub use rounded::rounded_again;
-pub use rounded::rounded_to_i64;
 pub use whole_f32::floor_f32;
 pub use whole_f32::fract_f32;
 pub use whole_f32::round_f32;

@@ -4,7 +4,7 @@ ghost use lib.Ieee.{binary64};
 ghost use lib.Ieee.Nearest.{closest};
 ghost use Rattle.ieee.specs.Whole.{whole, cut, raised, halfUp, truncOf, roundOf, floorOf};
 ghost use Rattle.float.specs.Small.{Small};
-ghost use Rattle.float.specs.Near.{Rounds};
+ghost use Rattle.float.specs.Near.{nearOf};
 
 // What `near_f64` gives: the rounded number, or nothing.
 pub enum Near {
@@ -105,7 +105,7 @@ pub fn floor_f64(x: f64) -> f64
 // nothing. A caller branches on the answer, so what it computes from n can be begun before the test
 // is decided, where `round_f64` waits to choose between n and n + 1.
 pub fn near_f64(x: f64) -> Near
-    ensures { λ r. ⌜ Rounds x r ⌝ }
+    ensures { λ r. ⌜ r ≡ nearOf x ⌝ }
 {
     if x > 0.0 {
         if x < 4503599627370496.0 {

@@ -1,6 +1,6 @@
--- What the score call leans on: a note's frames lie within the output, and a curve's last place is a number of 33 bits. Assumes nothing.
+-- What the score call leans on: a note's frames lie within the output. Assumes nothing.
 use mathlib.Core.Path.{_≡_, refl}
-use Prim.Native.Nat.{ℕ, _+_, _^_, _≤_, _<_, max}
+use Prim.Native.Nat.{ℕ, _+_, _≤_, _<_, max}
 use native.Mathlib.Omega.{arith}
 use mathlib.Core.Bool.{Bool, true, false, cond}
 use lib.Ieee.{Float, lt, toUnsigned}
@@ -34,14 +34,6 @@ module _ (len : ℕ) (dur : Float) (n : ℕ) where
       where
         under : (k : ℕ) → k ≤ n → max k 1 ≤ max n 1
         under k l = omega arith
-
-    -- "offset + length" of a curve fits 64 bits
-    pub curve-fits : (offset : ℕ) → offset < 2 ^ 32 → offset + lengthOf len dur n < 2 ^ 33
-    curve-fits offset l = omega (arith, length-most, h .most)
-
-    -- "start + length" of a note that is not skipped
-    pub end-fits : (start : ℕ) → start < n → start + lengthOf len dur n ≤ 2 ^ 25
-    end-fits start l = omega (arith, length-most, h .most)
 
 -- ---- the frames that sound
 module _ (n start length : ℕ) where

@@ -23,9 +23,8 @@ use Rattle.rng.proofs.States.{top-lt}
 use Rattle.rng.proofs.Draws.{bi-low, bi-high}
 use Rattle.dsl.specs.Domain.{Frames}
 use Rattle.dsl.specs.declared.note.SeqNote.{SeqNote}
-use Rattle.groove.specs.declared.timing.Human.{Human}
 use Rattle.groove.specs.Humanize.{seedOf, humanizeDraws}
-use Rattle.groove.specs.Timing.{swingDelay, humanOf, grooveOf}
+use Rattle.groove.specs.Timing.{swingDelay, humanDelay, grooveOf}
 use Rattle.groove.specs.Length.{lengthOf}
 use Rattle.dsl.proofs.Exact.{step-value}
 use Rattle.groove.proofs.Room.{length-most}
@@ -88,10 +87,6 @@ dur-within a c x v = value-within x false (v .num) (v .den) (2 ^ 24) (v .den-pos
     under : (n d : ℕ) → n * 1 ≤ 11520000 * d → n ≤ 2 ^ 24 * d
     under n d h = omega arith
 
-delay-within : (t : Bool) (x y : Human) (b : ℕ) → Within (x .delay) b → Within (y .delay) b → Within (cond t x y .delay) b
-delay-within true x y b u w = u
-delay-within false x y b u w = w
-
 -- ---- a note
 module _ (note : SeqNote) (swing humanize dur : Float) (step : note .step ≤ 1048575) (D : Within dur (2 ^ 24)) (S : Within swing 1) (H : Within humanize 1) where
   step-within : Within (f32 (note .step)) (2 ^ 20)
@@ -108,9 +103,9 @@ module _ (note : SeqNote) (swing humanize dur : Float) (step : note .step ≤ 10
   unfolding humanizeDraws
   draw-within = bi-within (next (seedOf note) / 2 ^ 40) (top-lt (seedOf note))
 
-  human-within : Within (humanOf note humanize dur .delay) (2 ^ 24)
-  unfolding humanOf
-  human-within = delay-within (lt c0 humanize) _ _ (2 ^ 24) moved (zero-within (2 ^ 24))
+  human-within : Within (humanDelay note humanize dur) (2 ^ 24)
+  unfolding humanDelay
+  human-within = cond-within (lt c0 humanize) _ _ (2 ^ 24) moved (zero-within (2 ^ 24))
     where
       moved : Within (humanize ⊗ c0·12 ⊗ dur ⊗ humanizeDraws note .timing) (2 ^ 24)
       moved =
@@ -118,12 +113,12 @@ module _ (note : SeqNote) (swing humanize dur : Float) (step : note .step ≤ 10
           (mul-within binary32 1 (2 ^ 24) (humanize ⊗ c0·12) dur exact-24 (mul-within binary32 1 1 humanize c0·12 exact-1 H c0·12-within) D) draw-within
 
   at : Float
-  at = f32 (note .step) ⊗ dur ⊕ swingDelay (note .step) swing dur ⊕ humanOf note humanize dur .delay
+  at = f32 (note .step) ⊗ dur ⊕ swingDelay (note .step) swing dur ⊕ humanDelay note humanize dur
 
   at-within : Within at (2 ^ 44 + 2 ^ 25)
   unfolding at
   at-within =
-      add-within binary32 (2 ^ 44 + 2 ^ 24) (2 ^ 24) (f32 (note .step) ⊗ dur ⊕ swingDelay (note .step) swing dur) (humanOf note humanize dur .delay) exact-both
+      add-within binary32 (2 ^ 44 + 2 ^ 24) (2 ^ 24) (f32 (note .step) ⊗ dur ⊕ swingDelay (note .step) swing dur) (humanDelay note humanize dur) exact-both
       (add-within binary32 (2 ^ 44) (2 ^ 24) (f32 (note .step) ⊗ dur) (swingDelay (note .step) swing dur) exact-sum
       (mul-within binary32 (2 ^ 20) (2 ^ 24) (f32 (note .step)) dur exact-44 step-within D) swing-within)
       human-within

@@ -9,7 +9,6 @@ use Rattle.ieee.specs.Order.{maxOf, clampOf}
 use Rattle.dsl.specs.declared.note.SeqNote.{SeqNote}
 use Rattle.groove.specs.Number.{c60}
 use Rattle.groove.specs.Humanize.{humanizeDraws}
-use Rattle.groove.specs.declared.timing.Human.{Human}
 use Rattle.groove.specs.declared.timing.Groove.{Groove}
 
 -- "Samples per step = rate × 60 / tempo / steps per beat, in f32."
@@ -20,19 +19,17 @@ stepDur rate tempo stepsPerBeat = f32 rate ⊗ c60 ⊘ tempo ⊘ f32 stepsPerBea
 unfoldable pub swingDelay : ℕ → Float → Float → Float
 swingDelay step swing dur = cond (eqb (step % 2) 1) (swing ⊗ c0·5 ⊗ dur) c0
 
--- "With humanize above 0": the delay is at most 0.12 of a step either way, and the gain changes by at most 0.15 of itself
-unfoldable pub humanOf : SeqNote → Float → Float → Human
-humanOf note humanize dur =
-    cond (lt c0 humanize)
-    (record {
-      delay = humanize ⊗ c0·12 ⊗ dur ⊗ humanizeDraws note .timing;
-      gain = note .gain ⊗ (c1 ⊕ humanize ⊗ c0·15 ⊗ humanizeDraws note .gain);
-    })
-    (record { delay = c0; gain = note .gain })
+-- "With humanize above 0": the delay, at most 0.12 of a step either way
+unfoldable pub humanDelay : SeqNote → Float → Float → Float
+humanDelay note humanize dur = cond (lt c0 humanize) (humanize ⊗ c0·12 ⊗ dur ⊗ humanizeDraws note .timing) c0
+
+-- and the gain, which changes by at most 0.15 of itself
+unfoldable pub humanGain : SeqNote → Float → Float
+humanGain note humanize = cond (lt c0 humanize) (note .gain ⊗ (c1 ⊕ humanize ⊗ c0·15 ⊗ humanizeDraws note .gain)) (note .gain)
 
 -- "Start is cut, not rounded." Nothing starts before frame 0. The grooved gain is clamped to 0 and 1.
 unfoldable pub grooveOf : SeqNote → Float → Float → Float → Groove
 grooveOf note swing humanize dur = record {
-  start = toUnsigned 64 (maxOf (f32 (note .step) ⊗ dur ⊕ swingDelay (note .step) swing dur ⊕ humanOf note humanize dur .delay) c0);
-  gain = clampOf (humanOf note humanize dur .gain) c0 c1;
+  start = toUnsigned 64 (maxOf (f32 (note .step) ⊗ dur ⊕ swingDelay (note .step) swing dur ⊕ humanDelay note humanize dur) c0);
+  gain = clampOf (humanGain note humanize) c0 c1;
 }

@@ -1,7 +1,7 @@
 // Groove: where a note starts and how loud it is.
 ghost use mathlib.Core.Path.{_≡_};
 ghost use Rattle.dsl.specs.Domain.{numeric};
-ghost use Rattle.groove.specs.Timing.{stepDur, swingDelay, humanOf, grooveOf};
+ghost use Rattle.groove.specs.Timing.{stepDur, swingDelay, humanDelay, humanGain, grooveOf};
 use crate::humanize::humanize_draws;
 use dsl::SeqNote;
 
@@ -37,7 +37,8 @@ struct Human {
 
 fn humanized(note: SeqNote, humanize: f32, step_dur: f32) -> Human
     requires { ⌜ numeric (note .pitch) ⌝ }
-    ensures { λ r. ⌜ r ≡ humanOf note humanize «step_dur» ⌝ }
+    ensures { λ r. ⌜ r .delay ≡ humanDelay note humanize «step_dur» ⌝ }
+    ensures { λ r. ⌜ r .gain ≡ humanGain note humanize ⌝ }
 {
     if humanize > 0.0 {
         let draws = humanize_draws(note);

@@ -3,10 +3,9 @@ use mathlib.Core.Path.{_≡_, refl, ap, _∙_}
 use mathlib.Core.List.{List, []}
 use lib.ListN.{drop}
 use lib.Ieee.{Float}
-use Rattle.outcome.specs.Answer.{Result, seen, outAfter, free}
+use Rattle.outcome.specs.Answer.{Result, seen, reported, outAfter, free}
 use Rattle.outcome.specs.declared.answer.Outcome.{Outcome}
 use Rattle.outcome.specs.declared.answer.Outcome.the-variants.{Played, Refused}
-use Rattle.tally.specs.Tally.{reported}
 use Rattle.harness.specs.Called.{none, made, numberIn, stateAfterResult, Places, Holds}
 
 module _ (p : Places) where
@@ -28,7 +27,8 @@ pub record Returned (p : Places) (x : Result) (a : Outcome) : Type 0 where
   pub frames : p .out ≡ outAfter (p .out₀) x
   pub string : drop (free 9600 x) (p .string) ≡ drop (free 9600 x) (p .string₀)
 
-pub made-holds : {p : Places} {x : Result} {a : Outcome} → Returned p x a → p .number ≡ numberIn (seen a []) → p .draws ≡ reported (seen a []) → p .state ≡ stateAfterResult (p .state₀) x → Holds (made x) p
+pub made-holds : {p : Places} {x : Result} {a : Outcome} → Returned p x a → p .number ≡ numberIn (seen a []) → p .draws ≡ reported (seen a [])
+    → p .state ≡ stateAfterResult (p .state₀) x → Holds (made x) p
 made-holds {p} {x} {a} h n d s = record {
   number = n ∙ number-seen a (p .out) ∙ ap numberIn (h .answer);
   draws = d ∙ draws-seen a (p .out) ∙ ap reported (h .answer);

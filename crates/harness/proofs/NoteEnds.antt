@@ -2,18 +2,16 @@
 use Prim.Native.Nat.{ℕ}
 use mathlib.Core.Path.{_≡_, refl, sym, ap, _∙_}
 use mathlib.Core.List.{[]}
-use lib.ListN.{length}
 use Rattle.rng.specs.declared.Rng.{Rng}
 use Rattle.dsl.specs.declared.knobs.SeqVoice.{SeqVoice}
-use Rattle.outcome.specs.Answer.{Result, refused, accepted, seen}
-use Rattle.tally.specs.Tally.{reported}
+use Rattle.outcome.specs.Answer.{Result, refused, accepted, seen, reported}
 use Rattle.note.specs.NoteCall.{NoteEvent, Voiced, noteResultOf, noteResultIn, rngAfter}
 use Rattle.note.specs.declared.answer.NoteAnswer.{NoteAnswer}
-use Rattle.knobs.specs.Knobs.{voiceAt}
+use Rattle.harness_knobs.specs.Knobs.{voiceAt}
 use Rattle.harness.specs.Called.{Called, none, made, numberIn, stateAfterResult, Places, Holds}
-use Rattle.harness.specs.Note.{NoteExport, NoteExported, calledWith, calledIn}
-use Rattle.knobs.specs.declared.VoiceAt.{VoiceAt}
-use Rattle.knobs.specs.declared.VoiceAt.the-variants.{Voice, Nothing}
+use Rattle.harness.specs.Note.{NoteExport, NoteExported, handedWith, noteCalledWith, noteCalled}
+use Rattle.harness_knobs.specs.declared.VoiceAt.{VoiceAt}
+use Rattle.harness_knobs.specs.declared.VoiceAt.the-variants.{Voice, Nothing}
 use Rattle.harness.proofs.Ends.{Returned, made-holds}
 
 -- the note call that was made, with the voice v and the generator g; a is its answer
@@ -40,18 +38,18 @@ module _ (e : NoteExport) where
   abbrev p : Places
   p = e .places
 
-  exported : (x : Called) → calledIn e ≡ x → Holds x p → NoteExported e
+  exported : (x : Called) → noteCalled e ≡ x → Holds x p → NoteExported e
   exported x q h = rw q h
 
   pub not-called : Nothing ≡ voiceAt (e .wave) (e .knobs) → Holds none p → NoteExported e
-  not-called v = exported none (ap (λ (x : VoiceAt). calledWith x e) (sym v))
+  not-called v = exported none (ap (λ (x : VoiceAt). noteCalledWith x e) (sym v))
 
   module _ (v : SeqVoice) (g : Rng) (a : NoteAnswer) (voice : Voice v ≡ voiceAt (e .wave) (e .knobs)) (state : g .0 ≡ p .state₀) (call : Voiced (callOf e v g a)) where
     abbrev result : Result
     result = noteResultIn (callOf e v g a)
 
-    called : calledIn e ≡ made result
-    called = ap (λ (x : VoiceAt). calledWith x e) (sym voice) ∙ ap (λ (s : ℕ). made (noteResultOf (e .rate) v (e .gain) (e .pitch) (e .duty) (length (p .out₀)) (length (p .string₀)) s)) (sym state)
+    called : noteCalled e ≡ made result
+    called = ap (λ (x : VoiceAt). noteCalledWith x e) (sym voice) ∙ ap (λ (s : ℕ). made (noteResultOf (handedWith v e) s)) (sym state)
 
     returned : Returned p result (a .outcome)
     returned = record { answer = call .answer; frames = call .frames; string = call .string }

@@ -6,20 +6,19 @@ use lib.ListN.{length, drop}
 use Rattle.rng.specs.declared.Rng.{Rng}
 use Rattle.dsl.specs.declared.knobs.Adsr.{Adsr}
 use Rattle.dsl.specs.declared.knobs.SeqVoice.{SeqVoice}
-use Rattle.outcome.specs.Answer.{Result, refused, accepted, seen}
-use Rattle.tally.specs.Tally.{reported}
-use Rattle.calls.specs.ScoreCall.{Event, Scored, resultOf, resultIn, sessionAfter}
+use Rattle.outcome.specs.Answer.{Result, refused, accepted, seen, reported}
+use Rattle.score_contract.specs.ScoreCall.{Event, Scored, resultOf, resultIn, sessionAfter}
 use Rattle.session.specs.declared.Session.{Session}
 use Rattle.session.specs.declared.Answer.{Answer}
-use Rattle.knobs.specs.Knobs.{voiceAt, envAt}
+use Rattle.harness_knobs.specs.Knobs.{voiceAt, envAt}
 use Rattle.harness.specs.Called.{Called, none, made, numberIn, stateAfterResult, drawAfterResult, drawAfterCall, freeAfterCall, Places, Holds}
-use Rattle.harness.specs.Score.{ScoreExport, ScoreExported, seqWith, scoreWith, calledWith, calledIn}
-use Rattle.knobs.specs.declared.VoiceAt.{VoiceAt}
-use Rattle.knobs.specs.declared.VoiceAt.the-variants.{Voice}
-use Rattle.knobs.specs.declared.VoiceAt.the-variants as voices
-use Rattle.knobs.specs.declared.EnvAt.{EnvAt}
-use Rattle.knobs.specs.declared.EnvAt.the-variants.{Env}
-use Rattle.knobs.specs.declared.EnvAt.the-variants as envelopes
+use Rattle.harness.specs.Score.{ScoreExport, ScoreExported, scoreWith, scoreCalledWith, scoreCalled}
+use Rattle.harness_knobs.specs.declared.VoiceAt.{VoiceAt}
+use Rattle.harness_knobs.specs.declared.VoiceAt.the-variants.{Voice}
+use Rattle.harness_knobs.specs.declared.VoiceAt.the-variants as voices
+use Rattle.harness_knobs.specs.declared.EnvAt.{EnvAt}
+use Rattle.harness_knobs.specs.declared.EnvAt.the-variants.{Env}
+use Rattle.harness_knobs.specs.declared.EnvAt.the-variants as envelopes
 use Rattle.harness.proofs.Ends.{Returned, made-holds}
 
 -- the session that was handed in, with the generator g
@@ -29,7 +28,7 @@ sessionOf e g = record { rng = g; draw = e .draw₀ }
 -- the score call that was made, with the voice v and the envelope m; a is its answer
 abbrev callOf : ScoreExport → SeqVoice → Adsr → Answer → Event
 callOf e v m a = record {
-  seq = seqWith v m e;
+  seq = scoreWith v m e .seq;
   notes = e .notes;
   lane = e .lane;
   out₀ = e .places .out₀;
@@ -58,15 +57,15 @@ module _ (e : ScoreExport) where
   Others x =
       (e .draw ≡ drawAfterCall (e .draw₀) x) × (drop (freeAfterCall (length (p .out₀)) x) (e .buffer) ≡ drop (freeAfterCall (length (p .out₀)) x) (e .buffer₀))
 
-  exported : (x : Called) → calledIn e ≡ x → Holds x p → Others x → ScoreExported e
+  exported : (x : Called) → scoreCalled e ≡ x → Holds x p → Others x → ScoreExported e
   exported x q h o = record { places = rw q h; draw = rw q (o .0); buffer = rw q (o .1) }
 
   pub no-voice : voices.Nothing ≡ voiceAt (e .wave) (e .knobs) → Holds none p → Others none → ScoreExported e
-  no-voice v = exported none (ap (λ (x : VoiceAt). calledWith x (envAt (e .env)) e) (sym v))
+  no-voice v = exported none (ap (λ (x : VoiceAt). scoreCalledWith x (envAt (e .env)) e) (sym v))
 
   module _ (v : SeqVoice) (voice : Voice v ≡ voiceAt (e .wave) (e .knobs)) where
-    voiced : (m : EnvAt) → m ≡ envAt (e .env) → calledIn e ≡ calledWith (Voice v) m e
-    voiced m env = λ j. calledWith (sym voice j) (sym env j) e
+    voiced : (m : EnvAt) → m ≡ envAt (e .env) → scoreCalled e ≡ scoreCalledWith (Voice v) m e
+    voiced m env = λ j. scoreCalledWith (sym voice j) (sym env j) e
 
     pub no-envelope : envelopes.Nothing ≡ envAt (e .env) → Holds none p → Others none → ScoreExported e
     no-envelope m = exported none (voiced envelopes.Nothing m)
@@ -75,8 +74,8 @@ module _ (e : ScoreExport) where
       abbrev result : Result
       result = resultIn (sessionOf e g) (callOf e v m a)
 
-      called : calledIn e ≡ made result
-      called = voiced (Env m) env ∙ ap (λ (s : ℕ). made (resultOf (scoreWith v m e) (length (e .buffer₀)) (length (p .string₀)) s (e .draw₀))) (sym state)
+      called : scoreCalled e ≡ made result
+      called = voiced (Env m) env ∙ ap (λ (s : ℕ). made (resultOf (scoreWith v m e) s (e .draw₀))) (sym state)
 
       returned : Returned p result (a .outcome)
       returned = record { answer = call .answer; frames = call .frames; string = call .string }

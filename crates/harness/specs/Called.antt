@@ -5,8 +5,7 @@ use mathlib.Core.List.{List}
 use lib.ListN.{drop}
 use lib.Ieee.{Float}
 use Rattle.rng.specs.SplitMix64.{stateAfter}
-use Rattle.tally.specs.Tally.{reported}
-use Rattle.outcome.specs.Answer.{Result, refused, accepted, outAfter, free}
+use Rattle.outcome.specs.Answer.{Result, refused, accepted, reported, outAfter, free}
 
 -- no call is made where the knobs or the wave are not such; otherwise there is a result
 pub data Called : Type 0 where

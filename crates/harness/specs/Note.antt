@@ -3,11 +3,13 @@ use Prim.Native.Nat.{ℕ}
 use mathlib.Core.List.{List}
 use lib.ListN.{length}
 use lib.Ieee.{Float}
+use Rattle.dsl.specs.declared.knobs.SeqVoice.{SeqVoice}
+use Rattle.note_verdict.specs.NoteRefusals.{NoteHanded}
 use Rattle.note.specs.NoteCall.{noteResultOf}
-use Rattle.knobs.specs.Knobs.{voiceAt}
+use Rattle.harness_knobs.specs.Knobs.{voiceAt}
 use Rattle.harness.specs.Called.{Called, none, made, Places, Holds}
-use Rattle.knobs.specs.declared.VoiceAt.{VoiceAt}
-use Rattle.knobs.specs.declared.VoiceAt.the-variants.{Voice, Nothing}
+use Rattle.harness_knobs.specs.declared.VoiceAt.{VoiceAt}
+use Rattle.harness_knobs.specs.declared.VoiceAt.the-variants.{Voice, Nothing}
 
 -- What was handed in, and what was lent and answered.
 pub record NoteExport : Type 0 where
@@ -19,15 +21,25 @@ pub record NoteExport : Type 0 where
   pub duty : List Float
   pub places : Places
 
-abbrev pub calledWith : VoiceAt → NoteExport → Called
-calledWith (Voice v) e =
-    let p = e .places in
-    made (noteResultOf (e .rate) v (e .gain) (e .pitch) (e .duty) (length (p .out₀)) (length (p .string₀)) (p .state₀))
-calledWith Nothing e = none
+-- what the note call is handed with the voice v
+abbrev pub handedWith : SeqVoice → NoteExport → NoteHanded
+handedWith v e = record {
+  rate = e .rate;
+  voice = v;
+  gain = e .gain;
+  pitch = e .pitch;
+  duty = e .duty;
+  n = length (e .places .out₀);
+  string = length (e .places .string₀);
+}
 
-abbrev pub calledIn : NoteExport → Called
-calledIn e = calledWith (voiceAt (e .wave) (e .knobs)) e
+abbrev pub noteCalledWith : VoiceAt → NoteExport → Called
+noteCalledWith (Voice v) e = made (noteResultOf (handedWith v e) (e .places .state₀))
+noteCalledWith Nothing e = none
+
+abbrev pub noteCalled : NoteExport → Called
+noteCalled e = noteCalledWith (voiceAt (e .wave) (e .knobs)) e
 
 -- The contract: all is as in the note call of that voice.
 abbrev pub NoteExported : NoteExport → Type 0
-NoteExported e = Holds (calledIn e) (e .places)
+NoteExported e = Holds (noteCalled e) (e .places)

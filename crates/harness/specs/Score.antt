@@ -6,25 +6,21 @@ use lib.ListN.{length, drop}
 use lib.Ieee.{Float}
 use Rattle.dsl.specs.declared.knobs.Adsr.{Adsr}
 use Rattle.dsl.specs.declared.knobs.SeqVoice.{SeqVoice}
-use Rattle.score.specs.Score.{Score, scoreOf}
-use Rattle.calls.specs.ScoreCall.{resultOf}
-use Rattle.score.specs.declared.seq.Seq.{Seq}
-use Rattle.knobs.specs.Knobs.{voiceAt, envAt}
+use Rattle.score.specs.Score.{Score, handed}
+use Rattle.score_contract.specs.ScoreCall.{resultOf}
+use Rattle.score.specs.declared.seq.Timing.{Timing}
+use Rattle.harness_knobs.specs.Knobs.{voiceAt, envAt}
 use Rattle.harness.specs.Called.{Called, none, made, drawAfterCall, freeAfterCall, Places, Holds}
-use Rattle.knobs.specs.declared.VoiceAt.{VoiceAt}
-use Rattle.knobs.specs.declared.VoiceAt.the-variants.{Voice}
-use Rattle.knobs.specs.declared.VoiceAt.the-variants as voices
-use Rattle.knobs.specs.declared.EnvAt.{EnvAt}
-use Rattle.knobs.specs.declared.EnvAt.the-variants.{Env}
-use Rattle.knobs.specs.declared.EnvAt.the-variants as envelopes
+use Rattle.harness_knobs.specs.declared.VoiceAt.{VoiceAt}
+use Rattle.harness_knobs.specs.declared.VoiceAt.the-variants.{Voice}
+use Rattle.harness_knobs.specs.declared.VoiceAt.the-variants as voices
+use Rattle.harness_knobs.specs.declared.EnvAt.{EnvAt}
+use Rattle.harness_knobs.specs.declared.EnvAt.the-variants.{Env}
+use Rattle.harness_knobs.specs.declared.EnvAt.the-variants as envelopes
 
 -- What was handed in, and what was lent and answered. `draw` is the session's count, `buffer` the note buffer.
 pub record ScoreExport : Type 0 where
-  pub rate : ℕ
-  pub tempo : Float
-  pub «steps_per_beat» : ℕ
-  pub swing : Float
-  pub humanize : Float
+  pub timing : Timing
   pub wave : ℕ
   pub duty : Float
   pub knobs : List Float
@@ -37,31 +33,21 @@ pub record ScoreExport : Type 0 where
   pub buffer : List Float
   pub places : Places
 
-abbrev pub seqWith : SeqVoice → Adsr → ScoreExport → Seq
-seqWith v a e = record {
-  rate = e .rate;
-  tempo = e .tempo;
-  «steps_per_beat» = e .«steps_per_beat»;
-  swing = e .swing;
-  humanize = e .humanize;
-  voice = v;
-  duty = e .duty;
-  env = a;
-}
-
+-- what the score call is handed with the voice v and the envelope a
 abbrev pub scoreWith : SeqVoice → Adsr → ScoreExport → Score
-scoreWith v a e = scoreOf (seqWith v a e) (e .notes) (e .lane) (length (e .places .out₀))
+scoreWith v a e =
+    handed (record { timing = e .timing; voice = v; duty = e .duty; env = a }) (e .notes) (e .lane) (e .places .out₀) (e .buffer₀) (e .places .string₀)
 
-abbrev pub calledWith : VoiceAt → EnvAt → ScoreExport → Called
-calledWith (Voice v) (Env a) e = made (resultOf (scoreWith v a e) (length (e .buffer₀)) (length (e .places .string₀)) (e .places .state₀) (e .draw₀))
-calledWith (Voice v) envelopes.Nothing e = none
-calledWith voices.Nothing env e = none
+abbrev pub scoreCalledWith : VoiceAt → EnvAt → ScoreExport → Called
+scoreCalledWith (Voice v) (Env a) e = made (resultOf (scoreWith v a e) (e .places .state₀) (e .draw₀))
+scoreCalledWith (Voice v) envelopes.Nothing e = none
+scoreCalledWith voices.Nothing env e = none
 
-abbrev pub calledIn : ScoreExport → Called
-calledIn e = calledWith (voiceAt (e .wave) (e .knobs)) (envAt (e .env)) e
+abbrev pub scoreCalled : ScoreExport → Called
+scoreCalled e = scoreCalledWith (voiceAt (e .wave) (e .knobs)) (envAt (e .env)) e
 
 -- The contract: all is as in the score call of that voice and envelope. The note buffer's first n values are free after an accepted call.
 pub record ScoreExported (e : ScoreExport) : Type 0 where
-  pub places : Holds (calledIn e) (e .places)
-  pub draw : e .draw ≡ drawAfterCall (e .draw₀) (calledIn e)
-  pub buffer : drop (freeAfterCall (length (e .places .out₀)) (calledIn e)) (e .buffer) ≡ drop (freeAfterCall (length (e .places .out₀)) (calledIn e)) (e .buffer₀)
+  pub places : Holds (scoreCalled e) (e .places)
+  pub draw : e .draw ≡ drawAfterCall (e .draw₀) (scoreCalled e)
+  pub buffer : drop (freeAfterCall (length (e .places .out₀)) (scoreCalled e)) (e .buffer) ≡ drop (freeAfterCall (length (e .places .out₀)) (scoreCalled e)) (e .buffer₀)

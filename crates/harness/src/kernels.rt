@@ -1,51 +1,51 @@
 // The kernels and their f32 wrappers under C names.
 ghost use mathlib.Core.Path.{_≡_};
-ghost use Rattle.trig.specs.Trig.{sinOf, cosOf};
-ghost use Rattle.det.specs.Exp.{expOf};
-ghost use Rattle.det.specs.Ln.{lnOf};
-ghost use Rattle.det.specs.Pow.{powfOf};
-ghost use Rattle.det.specs.Tanh.{tanhOf};
+ghost use Rattle.trig.specs.Trig.{sin64, cos64};
+ghost use Rattle.det.specs.Exp.{exp64};
+ghost use Rattle.det.specs.Ln.{ln64};
+ghost use Rattle.det.specs.Pow.{powf64};
+ghost use Rattle.det.specs.Tanh.{tanh64};
 ghost use Rattle.trig.specs.Single.{sinfOf, cosfOf};
 ghost use Rattle.det.specs.Single.{expfOf, lnfOf, powffOf, tanhfOf};
 
 #[no_mangle]
 pub extern "C" fn h_sin(x: f64) -> f64
-    ensures { λ r. ⌜ r ≡ sinOf x ⌝ }
+    ensures { λ r. ⌜ r ≡ sin64 x ⌝ }
 {
     trig::sin(x)
 }
 
 #[no_mangle]
 pub extern "C" fn h_cos(x: f64) -> f64
-    ensures { λ r. ⌜ r ≡ cosOf x ⌝ }
+    ensures { λ r. ⌜ r ≡ cos64 x ⌝ }
 {
     trig::cos(x)
 }
 
 #[no_mangle]
 pub extern "C" fn h_exp(x: f64) -> f64
-    ensures { λ r. ⌜ r ≡ expOf x ⌝ }
+    ensures { λ r. ⌜ r ≡ exp64 x ⌝ }
 {
     det::exp(x)
 }
 
 #[no_mangle]
 pub extern "C" fn h_ln(x: f64) -> f64
-    ensures { λ r. ⌜ r ≡ lnOf x ⌝ }
+    ensures { λ r. ⌜ r ≡ ln64 x ⌝ }
 {
     det::ln(x)
 }
 
 #[no_mangle]
 pub extern "C" fn h_powf(x: f64, y: f64) -> f64
-    ensures { λ r. ⌜ r ≡ powfOf x y ⌝ }
+    ensures { λ r. ⌜ r ≡ powf64 x y ⌝ }
 {
     det::powf(x, y)
 }
 
 #[no_mangle]
 pub extern "C" fn h_tanh(x: f64) -> f64
-    ensures { λ r. ⌜ r ≡ tanhOf x ⌝ }
+    ensures { λ r. ⌜ r ≡ tanh64 x ⌝ }
 {
     det::tanh(x)
 }

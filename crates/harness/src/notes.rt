@@ -2,8 +2,8 @@
 ghost use Rattle.harness.specs.Note.{NoteExported};
 use crate::outcomes::draws_of;
 use crate::outcomes::number_of;
-use knobs::VoiceAt;
-use knobs::voice_at;
+use harness_knobs::VoiceAt;
+use harness_knobs::voice_at;
 use rng::Rng;
 
 // 0 where the call is accepted, else the refusal's number. `state` is the generator's, and changes

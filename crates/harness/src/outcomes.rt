@@ -1,8 +1,7 @@
 // The numbers that C gets of an outcome.
 ghost use mathlib.Core.Path.{_≡_};
 ghost use mathlib.Core.List.{[]};
-ghost use Rattle.outcome.specs.Answer.{seen};
-ghost use Rattle.tally.specs.Tally.{reported};
+ghost use Rattle.outcome.specs.Answer.{seen, reported};
 ghost use Rattle.harness.specs.Called.{numberIn};
 use outcome::Outcome;
 

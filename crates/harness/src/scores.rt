@@ -2,12 +2,13 @@
 ghost use Rattle.harness.specs.Score.{ScoreExported};
 use crate::outcomes::draws_of;
 use crate::outcomes::number_of;
-use knobs::EnvAt;
-use knobs::VoiceAt;
-use knobs::env_at;
-use knobs::voice_at;
+use harness_knobs::EnvAt;
+use harness_knobs::VoiceAt;
+use harness_knobs::env_at;
+use harness_knobs::voice_at;
 use rng::Rng;
 use score::Seq;
+use score::Timing;
 use session::Session;
 
 // 0 where the call is accepted, else the refusal's number. `state` is the state of the session's
@@ -35,11 +36,7 @@ pub extern "C" fn h_score(
     string: &mut [f32],
 ) -> u32
     ensures { λ r. ⌜ ScoreExported (record {
-      rate = rate;
-      tempo = tempo;
-      «steps_per_beat» = «steps_per_beat»;
-      swing = swing;
-      humanize = humanize;
+      timing = record { rate = rate; tempo = tempo; «steps_per_beat» = «steps_per_beat»; swing = swing; humanize = humanize };
       wave = wave;
       duty = duty;
       knobs = now (knobs .entry);
@@ -69,12 +66,15 @@ pub extern "C" fn h_score(
     let EnvAt::Env(env) = env_at(env) else {
         return u32::MAX;
     };
-    let seq = Seq {
+    let timing = Timing {
         rate,
         tempo,
         steps_per_beat,
         swing,
         humanize,
+    };
+    let seq = Seq {
+        timing,
         voice,
         duty,
         env,

@@ -56,7 +56,9 @@ near (suc k) (fin true m e) f t = absurd (go (m * up e) (down e) (down-pos e) (l
   where
     go : (A C : ℕ) → 0 < C → A * 2 + (k * 2 + 1) * 1 * C ≤ 0 → ⊥
     go A C P h = omega arith
-near k (fin false m e) f t = record { m = m; e = e; is = refl; size = between (m * up e) (down e) k (down-pos e) (from-size k m e f) (go (m * up e) (down e) (ltb-true (m * up e * 2) ((k * 2 + 1) * 1 * down e) t)) }
+near k (fin false m e) f t =
+    let less = go (m * up e) (down e) (ltb-true (m * up e * 2) ((k * 2 + 1) * 1 * down e) t) in
+    record { m = m; e = e; is = refl; size = between (m * up e) (down e) k (down-pos e) (from-size k m e f) less }
   where
     go : (A C : ℕ) → A * 2 < (k * 2 + 1) * 1 * C → A * 2 < (k * 2 + 1) * C
     go A C h = omega arith
@@ -105,12 +107,17 @@ module _ (g : ℕ → ℕ → ℕ) (one : (k : ℕ) → g k 1 ≡ k) where
 -- ---- the nearest whole number
 module _ {x : Float} {s : Bool} {k : ℕ} (n : Near x s k) where
   near-value : HasValue (roundOf x) s k 1
-  near-value = subst (λ (i : ℕ). HasValue (roundOf x) s i 1) (n .size) (subst (λ (y : Float). HasValue (roundOf y) s (halfUp (n .m * up (n .e)) (down (n .e))) 1) (sym (n .is)) (whole-valued halfUp half-one s (n .m) (n .e)))
+  near-value =
+      let q = halfUp (n .m * up (n .e)) (down (n .e)) in
+      subst (λ (i : ℕ). HasValue (roundOf x) s i 1) (n .size)
+      (subst (λ (y : Float). HasValue (roundOf y) s q 1) (sym (n .is)) (whole-valued halfUp half-one s (n .m) (n .e)))
 
   pub near-is : (f : Format) → T (fits f x) → k < 2 ^ prec f → exactly s k 0 ≡ roundOf x
   near-is f t h =
+      let fit = subst (λ (y : Float). T (fits f y)) (n .is) t in
+      let small = subst (λ (i : ℕ). i < 2 ^ prec f) (sym (n .size)) h in
       value-unique f f (exactly s k 0) (roundOf x) s k 1 (zero-lt-suc 0) (exactly-fits f s k 0 h (omega arith))
-      (subst (λ (y : Float). T (fits f (roundOf y))) (sym (n .is)) (whole-fitted halfUp half-one f s (n .m) (n .e) (subst (λ (y : Float). T (fits f y)) (n .is) t) (subst (λ (i : ℕ). i < 2 ^ prec f) (sym (n .size)) h)))
+      (subst (λ (y : Float). T (fits f (roundOf y))) (sym (n .is)) (whole-fitted halfUp half-one f s (n .m) (n .e) fit small))
       (exactly-value s k 0) near-value
 
 -- ---- as an integer

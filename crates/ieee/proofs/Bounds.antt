@@ -100,7 +100,9 @@ le-at-least x (fin true n g) b d B v t = absurd (true≢false (v .0))
 le-at-least nan (fin false n g) b d B v t = t
 le-at-least (inf true) (fin false n g) b d B v t = t
 le-at-least (inf false) (fin false n g) b d B v t = tt
-le-at-least (fin true m e) (fin false n g) b d B v t = no-zero (n * up g) (down e) (down g) b d B (down-pos e) (down-pos g) (v .1) (eqb→eq (n * up g * down e) 0 (both-true (eqb (n * up g * down e) (m * up e * down g)) (eqb (n * up g * down e) 0) t))
+le-at-least (fin true m e) (fin false n g) b d B v t =
+    let N = n * up g * down e in
+    no-zero (n * up g) (down e) (down g) b d B (down-pos e) (down-pos g) (v .1) (eqb→eq N 0 (both-true (eqb N (m * up e * down g)) (eqb N 0) t))
 le-at-least (fin false m e) (fin false n g) b d B v t = above (m * up e) (down e) (n * up g) (down g) b d (down-pos g) (or-le (n * up g * down e) (m * up e * down g) t) (v .1)
 
 -- where a comparison fails, x may also be a NaN
@@ -112,7 +114,10 @@ not-lt-at-least x (fin true n g) b d B v t = absurd (true≢false (v .0))
 not-lt-at-least nan (fin false n g) b d B v t = inl refl
 not-lt-at-least (inf true) (fin false n g) b d B v t = absurd (true≢false t)
 not-lt-at-least (inf false) (fin false n g) b d B v t = inr tt
-not-lt-at-least (fin true m e) (fin false n g) b d B v t = absurd (no-zero (n * up g) (down e) (down g) b d B (down-pos e) (down-pos g) (v .1) (none (m * up e * down g) (n * up g * down e) (ltb-false 0 (m * up e * down g + n * up g * down e) t)))
+not-lt-at-least (fin true m e) (fin false n g) b d B v t =
+    let M = m * up e * down g in
+    let N = n * up g * down e in
+    absurd (no-zero (n * up g) (down e) (down g) b d B (down-pos e) (down-pos g) (v .1) (none M N (ltb-false 0 (M + N) t)))
   where
     none : (a b : ℕ) → a + b ≤ 0 → b ≡ 0
     none a b h = omega arith
@@ -164,7 +169,9 @@ at-most-lt x (fin true n g) b d p q v h u = absurd (true≢false (v .0))
 at-most-lt nan (fin false n g) b d p q v h u = absurd u
 at-most-lt (inf true) (fin false n g) b d p q v h u = refl
 at-most-lt (inf false) (fin false n g) b d p q v h u = absurd u
-at-most-lt (fin true m e) (fin false n g) b d p q v h u = lt-ltb 0 (m * up e * down g + n * up g * down e) (positive (m * up e * down g) (n * up g) (down g) (down e) b d p q (down-pos g) (down-pos e) (v .1) h)
+at-most-lt (fin true m e) (fin false n g) b d p q v h u =
+    let M = m * up e * down g in
+    lt-ltb 0 (M + n * up g * down e) (positive M (n * up g) (down g) (down e) b d p q (down-pos g) (down-pos e) (v .1) h)
 at-most-lt (fin false m e) (fin false n g) b d p q v h u = lt-ltb (m * up e * down g) (n * up g * down e) (under (m * up e) (down e) (n * up g) (down g) b d p q (down-pos e) (down-pos g) u (v .1) h)
 
 -- M / D is at least b / d, which is N / E

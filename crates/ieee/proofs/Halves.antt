@@ -113,10 +113,10 @@ pub record Short (p b : ℕ) : Type 0 where
   pub small : n < 2 ^ p
   pub is : b ≡ n * 2 ^ j
 
-abbrev OnGrid : ℕ → ℕ → ℕ → Type 0
+abbrev pub OnGrid : ℕ → ℕ → ℕ → Type 0
 OnGrid p k b = ((c : ℕ) × (b ≡ c * 2 ^ k)) ⊎ ((0 < k) × (b < 2 ^ (p - 1) * 2 ^ k))
 
-on-grid : (p k b : ℕ) → 0 < p → Short p b → OnGrid p k b
+pub on-grid : (p k b : ℕ) → 0 < p → Short p b → OnGrid p k b
 on-grid p k b P h = go (compare (h .j) k) (cmp (h .j) k)
   where
     whole : k ≤ h .j → OnGrid p k b

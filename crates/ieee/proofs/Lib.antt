@@ -15,3 +15,5 @@ pub mod Range
 pub mod Size
 pub mod Quotients
 pub mod Between
+pub mod Integral
+pub mod Unique

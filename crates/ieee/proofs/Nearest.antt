@@ -20,7 +20,7 @@ use Rattle.ieee.proofs.Halves.{Grows, Placed, Rounded, rounded, none-ab
 use Rattle.ieee.proofs.Units.{short, units-value, units-inf, units-even, Drops, drops}
 
 -- ---- what a comparison says
-says : (a b : ℕ) (o : Ordering) → compare a b ≡ o → Cmp o a b
+pub says : (a b : ℕ) (o : Ordering) → compare a b ≡ o → Cmp o a b
 says a b o e = subst (λ (o : Ordering). Cmp o a b) e (cmp a b)
 
 not-lt : (a b : ℕ) → b ≤ a → compare a b ≢ Ordering·lt
@@ -119,7 +119,7 @@ in-squares : (x den k : ℕ) → x * 2 ^ k * (x * 2 ^ k) * den ≡ x * x * (den 
 in-squares x den k =
     ap (λ (y : ℕ). y * den) (mul-mul-mul-comm x (2 ^ k) x (2 ^ k) ∙ ap (λ (y : ℕ). x * x * y) (sym (pow-add 2 k k))) ∙ in-steps (x * x) den (2 ^ (k + k))
 
-square-lt : (x y : ℕ) → x < y → x * x < y * y
+pub square-lt : (x y : ℕ) → x < y → x * x < y * y
 square-lt x y l = lt-of-le-of-lt (mul-le-mul-left x (le-of-lt l)) (mul-lt-mul-of-pos-right l (lt-of-le-of-lt zero-le l))
 
 root-under : (n : ℕ) → n < suc (root n) * suc (root n)

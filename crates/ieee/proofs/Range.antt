@@ -51,7 +51,8 @@ module _ (lo hi : Float) (a c b d : ℕ) (A : 0 < a) (C : 0 < c) (D : 0 < d) (v 
       pick false false p q = both (p refl) (q refl)
 
 -- ---- a quotient of x, which is a / c, by y, which is n / e, beside a fraction p / q that rounds to b / d
-module _ (f : Format) (x y : Float) (a c n e : ℕ) (C : 0 < c) (N : 0 < n) (E : 0 < e) (v : HasValue x false a c) (w : HasValue y false n e) (p q b d : ℕ) (Q : 0 < q) (r : HasValue (round f false p q) false b d) where
+module _ (f : Format) (x y : Float) (a c n e : ℕ) (C : 0 < c) (N : 0 < n) (E : 0 < e) (v : HasValue x false a c) (w : HasValue y false n e)
+    (p q b d : ℕ) (Q : 0 < q) (r : HasValue (round f false p q) false b d) where
   quotient : div f x y ≡ round f false (a * e) (n * c)
   quotient = div-value f x y false false a c n e C N E v w
 

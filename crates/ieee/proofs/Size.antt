@@ -19,11 +19,6 @@ Within nan b = ⊥
 Within (inf s) b = ⊥
 Within (fin s m e) b = m * up e ≤ b * down e
 
-pub within-more : (x : Float) (a b : ℕ) → a ≤ b → Within x a → Within x b
-within-more nan a b h w = w
-within-more (inf s) a b h w = w
-within-more (fin s m e) a b h w = le-trans w (mul-le-mul-right (down e) h)
-
 pub value-within : (x : Float) (s : Bool) (a c b : ℕ) → 0 < c → HasValue x s a c → a ≤ b * c → Within x b
 value-within nan s a c b C v h = v
 value-within (inf t) s a c b C v h = v
@@ -62,7 +57,8 @@ module _ (f : Format) (a b : ℕ) where
   mul-within (fin s m e) nan v u w = w
   mul-within (fin s m e) (inf t) v u w = absurd w
   mul-within (fin s m e) (fin t n g) v u w =
-      round-within f (unlike s t) (m * up e * (n * up g)) (down e * down g) (a * b) (mul-pos (down-pos e) (down-pos g)) v (le-trans (mul-le-mul u w) (le-of-eq (mul-mul-mul-comm a (down e) b (down g))))
+      round-within f (unlike s t) (m * up e * (n * up g)) (down e * down g) (a * b) (mul-pos (down-pos e) (down-pos g)) v
+      (le-trans (mul-le-mul u w) (le-of-eq (mul-mul-mul-comm a (down e) b (down g))))
 
   sum-within : (s t : Bool) (A B C : ℕ) → 0 < C → HasValue (round f false (a + b) 1) false (a + b) 1 → A ≤ a * C → B ≤ b * C → Within (sum f s A t B C) (a + b)
   unfolding sum

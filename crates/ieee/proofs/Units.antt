@@ -2,7 +2,7 @@
 use mathlib.Core.Path.{_≡_, refl, sym, ap, _∙_, subst}
 use mathlib.Core.Logic.{inl, inr}
 use Prim.Native.Nat.{ℕ, zero, suc, _+_, _-_, _*_, _/_, _%_, _^_, _≤_, _<_}
-use native.Mathlib.Nat.{le-trans, le-of-eq, le-refl, lt-of-lt-of-le, lt-of-le-of-lt, lt-of-not-le, not-le-of-lt, eq-or-lt-of-le, le-of-suc-le-suc, mul-comm, mul-assoc, mul-one, zero-mul, mul-le-mul-right, mul-lt-mul-of-pos-right, mul-mod-left, eq-of-mul-eq-mul-right, mul-div-cancel}
+use native.Mathlib.Nat.{le-trans, le-of-eq, le-refl, lt-of-lt-of-le, lt-of-le-of-lt, lt-of-not-le, lt-of-mul-lt-mul-right, not-le-of-lt, eq-or-lt-of-le, le-of-suc-le-suc, mul-comm, mul-pos, mul-right-comm, mul-assoc, mul-one, zero-mul, mul-le-mul-right, mul-lt-mul-of-pos-right, mul-mod-left, eq-of-mul-eq-mul-right, mul-div-cancel}
 use native.Mathlib.Omega.{arith}
 use mathlib.Core.Bool.{Bool, true, false, _&&_, cond}
 use lib.IntN.{ℤ, pos, negsuc}
@@ -20,14 +20,18 @@ use Rattle.ieee.proofs.Digits.{size-at}
 use Rattle.ieee.proofs.Halves.{Short, pow-even}
 
 -- ---- a value has at most prec digits, and zeros after them
-pub fits-parts : (f : Format) (s : Bool) (m : ℕ) (e : ℤ) → T (fits f (fin s (suc m) e)) → (suc m < 2 ^ prec f) × (down e ≤ 2 ^ low f)
+pub fits-parts : (f : Format) (s : Bool) (m : ℕ) (e : ℤ) → T (fits f (fin s (suc m) e)) → (suc m < 2 ^ prec f) × (down e ≤ 2 ^ low f) × (suc m * up e < 2 ^ suc (emax f) * down e)
 unfolding fits
 fits-parts f s m e t =
     let a : Bool = eqb (suc m % 2) 1 in
     let b : Bool = ltb (suc m) (2 ^ prec f) in
     let c : Bool = leb (down e) (2 ^ low f) in
-    let h : T (a && b && c) = and-l (a && b && c) (ltb (suc m * up e) (2 ^ suc (emax f) * down e)) t in
-    (ltb→lt (suc m) (2 ^ prec f) (and-r a b (and-l (a && b) c h)), leb→le (down e) (2 ^ low f) (and-r (a && b) c h))
+    let d : Bool = ltb (suc m * up e) (2 ^ suc (emax f) * down e) in
+    let h : T (a && b && c) = and-l (a && b && c) d t in (
+      ltb→lt (suc m) (2 ^ prec f) (and-r a b (and-l (a && b) c h)),
+      leb→le (down e) (2 ^ low f) (and-r (a && b) c h),
+      ltb→lt (suc m * up e) (2 ^ suc (emax f) * down e) (and-r (a && b && c) d t),
+    )
 
 pow-back : (i j : ℕ) → 2 ^ i ≤ 2 ^ j → i ≤ j
 pow-back i j h = le-of-suc-le-suc (lt-of-not-le (λ (l : suc j ≤ i). not-le-of-lt (pow-lt l) h))
@@ -98,10 +102,10 @@ toBits-value f (fin t m e) s a v =
     (λ i. cond (v .0 i) (top f) 0 + (size (m * up e * 2 ^ low f / down e) - prec f) * hid f + m * up e * 2 ^ low f / down e / 2 ^ (size (m * up e * 2 ^ low f / down e) - prec f))
     ∙ ap (λ (n : ℕ). cond s (top f) 0 + (size n - prec f) * hid f + n / 2 ^ (size n - prec f)) (ap (λ (x : ℕ). x / down e) (v .1) ∙ mul-div-cancel a (down-pos e))
 
-abbrev keeps : ℕ → ℕ → ℕ
+abbrev pub keeps : ℕ → ℕ → ℕ
 keeps p a = a / 2 ^ (size a - p)
 
-keeps-q : (p q k : ℕ) → 0 < p → q < 2 ^ p → (0 < k → 2 ^ (p - 1) ≤ q) → keeps p (q * 2 ^ k) ≡ q
+pub keeps-q : (p q k : ℕ) → 0 < p → q < 2 ^ p → (0 < k → 2 ^ (p - 1) ≤ q) → keeps p (q * 2 ^ k) ≡ q
 keeps-q p q k P l g =
     ap (λ (z : ℕ). q * 2 ^ k / 2 ^ z) (drops-is p k (q * 2 ^ k) P (mul-lt-mul-of-pos-right l (pow-pos k), λ i. mul-le-mul-right (2 ^ k) (g i)))
     ∙ mul-div-cancel q (pow-pos k)
@@ -130,14 +134,14 @@ times-even n a h = ap (λ (x : ℕ). x % 2) (ap (λ (x : ℕ). n * x) (double a 
     double : (a : ℕ) → a % 2 ≡ 0 → a ≡ a / 2 * 2
     double a h = omega arith
 
-pub units-even : (f : Format) (s : Bool) (q k : ℕ) → q ≤ 2 ^ prec f → (0 < k → 2 ^ (prec f - 1) ≤ q) → q * 2 ^ k < overflow f → q % 2 ≡ 0 → toBits f (units f s q k) % 2 ≡ 0
-units-even f s q k h g l e =
-    let a = q * 2 ^ k in
-    ap (λ (x : ℕ). x % 2) (toBits-value f (units f s q k) s a (units-val f s q k l))
-    ∙ sum (cond s (top f) 0) ((size a - prec f) * hid f) (keeps (prec f) a) (sign s) (times-even (size a - prec f) (hid f) hid-even) (keeps-even (prec f) q k (two f) h g e)
+-- the last bit of a pattern is that of the digits which it keeps
+pub last-bit : (f : Format) (x : Float) (s : Bool) (a : ℕ) → HasValue x s a (2 ^ low f) → toBits f x % 2 ≡ keeps (prec f) a % 2
+last-bit f x s a v =
+    ap (λ (x : ℕ). x % 2) (toBits-value f x s a v)
+    ∙ sum (cond s (top f) 0) ((size a - prec f) * hid f) (keeps (prec f) a) (sign s) (times-even (size a - prec f) (hid f) hid-even)
   where
-    sum : (a b c : ℕ) → a % 2 ≡ 0 → b % 2 ≡ 0 → c % 2 ≡ 0 → (a + b + c) % 2 ≡ 0
-    sum a b c x y z = omega arith
+    sum : (a b c : ℕ) → a % 2 ≡ 0 → b % 2 ≡ 0 → (a + b + c) % 2 ≡ c % 2
+    sum a b c x y = omega arith
 
     hid-even : hid f % 2 ≡ 0
     hid-even = pow-even (prec f - 1) (lower (prec f) (two f) .0)
@@ -145,3 +149,23 @@ units-even f s q k h g l e =
     sign : (s : Bool) → cond s (top f) 0 % 2 ≡ 0
     sign true = ap (λ (x : ℕ). x % 2) (mul-comm (hid f) (suc (ones f))) ∙ times-even (suc (ones f)) (hid f) hid-even
     sign false = refl
+
+pub units-even : (f : Format) (s : Bool) (q k : ℕ) → q ≤ 2 ^ prec f → (0 < k → 2 ^ (prec f - 1) ≤ q) → q * 2 ^ k < overflow f → q % 2 ≡ 0 → toBits f (units f s q k) % 2 ≡ 0
+units-even f s q k h g l e = last-bit f (units f s q k) s (q * 2 ^ k) (units-val f s q k l) ∙ keeps-even (prec f) q k (two f) h g e
+
+-- ---- a value is finite: it lies below the first power of two that the format has not
+pub value-below : (f : Format) (s : Bool) (b : ℕ) (x : Float) → IsValue f s b x → b < overflow f
+value-below f s b x v = go x (v .held) (v .is)
+  where
+    crossed : (N D U : ℕ) → 0 < D → N * 2 ^ low f ≡ b * D → N < U * D → b < U * 2 ^ low f
+    crossed N D U P e h = lt-of-mul-lt-mul-right D (lt-of-le-of-lt (le-of-eq (sym e)) (lt-of-lt-of-le (mul-lt-mul-of-pos-right h (pow-pos (low f))) (le-of-eq (mul-right-comm U D (2 ^ low f)))))
+
+    total : 2 ^ suc (emax f) * 2 ^ low f ≡ overflow f
+    total = mul-comm (2 ^ suc (emax f)) (2 ^ low f) ∙ sym (pow-add 2 (low f) (suc (emax f)))
+
+    go : (x : Float) → T (fits f x) → HasValue x s b (2 ^ low f) → b < overflow f
+    go (fin t zero e) h v =
+        let U = 2 ^ suc (emax f) in
+        subst (λ (n : ℕ). b < n) total
+        (crossed (zero * up e) (down e) U (down-pos e) (v .1) (subst (λ (n : ℕ). n < U * down e) (sym (zero-mul (up e))) (mul-pos (pow-pos (suc (emax f))) (down-pos e))))
+    go (fin t (suc m) e) h v = subst (λ (n : ℕ). b < n) total (crossed (suc m * up e) (down e) (2 ^ suc (emax f)) (down-pos e) (v .1) (fits-parts f t m e h .2))

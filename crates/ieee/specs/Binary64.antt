@@ -2,16 +2,16 @@
 use lib.Ieee as Ieee
 use lib.Ieee.{Float, binary64}
 
-infixl 60 _⊕_ _⊖_
-infixl 70 _⊗_ _⊘_
-abbrev pub _⊕_ : Float → Float → Float
-x ⊕ y = Ieee.add binary64 x y
+infixl 60 _⊞_ _⊟_
+infixl 70 _⊠_ _⧄_
+abbrev pub _⊞_ : Float → Float → Float
+x ⊞ y = Ieee.add binary64 x y
 
-abbrev pub _⊖_ : Float → Float → Float
-x ⊖ y = Ieee.sub binary64 x y
+abbrev pub _⊟_ : Float → Float → Float
+x ⊟ y = Ieee.sub binary64 x y
 
-abbrev pub _⊗_ : Float → Float → Float
-x ⊗ y = Ieee.mul binary64 x y
+abbrev pub _⊠_ : Float → Float → Float
+x ⊠ y = Ieee.mul binary64 x y
 
-abbrev pub _⊘_ : Float → Float → Float
-x ⊘ y = Ieee.div binary64 x y
+abbrev pub _⧄_ : Float → Float → Float
+x ⧄ y = Ieee.div binary64 x y

@@ -4,6 +4,7 @@ pub mod Order
 pub mod Narrow
 pub mod Root
 pub mod Nearest
+pub mod Integral
 pub mod Binary32
 pub mod Binary64
 pub mod Numbers

@@ -23,6 +23,10 @@ fractionAt f num den h = compare (num * 2 ^ low f * 2) (h * den)
 abbrev pub rootAt : Format → ℕ → ℕ → Magnitude
 rootAt f num den h = compare (num * 2 ^ (low f + low f) * 4) (h * h * den)
 
+-- halves are in their order: v is greater than all that lie before one that it equals, as any number is
+abbrev pub Ordered : Magnitude → Type 0
+Ordered v = (h i : ℕ) → h < i → v i ≡ Ordering·eq → v h ≡ Ordering·gt
+
 -- 2 ^ emax * (2 - 2 ^ -prec) in such halves: the largest value, and half a unit of its last digit more
 abbrev pub limit : Format → ℕ
 limit f = (2 ^ (prec f + 1) - 1) * 2 ^ (low f + emax f + 1 - prec f)

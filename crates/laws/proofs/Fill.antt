@@ -6,7 +6,7 @@ use mathlib.Core.List.{List, [], _∷_, _++_, append-nil, append-assoc}
 use native.Mathlib.Omega.{arith}
 use native.Mathlib.Numerals.{add-one}
 use lib.ListN.{length, getD, set, drop, length-append, length-drop, drop-of-length-le}
-use lib.Seq.{drop-cons, set-at, getD-at}
+use lib.Seq.{drop-cons, set-at}
 use Rattle.laws.specs.Run.{stateAt, samples, sampleAt}
 
 module _ {S O Y : Type 0} (step : ℕ → S → O) (sample : O → Y) (state : O → S) (s₀ : S) where
@@ -49,7 +49,13 @@ module _ {S O Y : Type 0} {step : ℕ → S → O} {sample : O → Y} {state : O
       }
 
   -- the same where the code holds the sample and the state's parts apart
-  pub filled-more-parts : {i : ℕ} {l : List Y} {s : S} {y : Y} {t : S} → Filled step sample state s₀ l₀ i l s → i < length l₀ → y ≡ sample (step i s) → t ≡ state (step i s) → Filled step sample state s₀ l₀ (i + 1) (set l i y) t
+  pub filled-more-parts :
+      {i : ℕ} {l : List Y} {s : S} {y : Y} {t : S} →
+      Filled step sample state s₀ l₀ i l s →
+      i < length l₀ →
+      y ≡ sample (step i s) →
+      t ≡ state (step i s) →
+      Filled step sample state s₀ l₀ (i + 1) (set l i y) t
   filled-more-parts h lt ey et = rw (ey, et) (filled-more h lt refl)
 
   -- at the end, n being the number of frames
@@ -63,15 +69,6 @@ module _ {S O Y : Type 0} {step : ℕ → S → O} {sample : O → Y} {state : O
       let k : i ≡ n = omega (arith, h .within) in
       h .reached ∙ ap (stateAt step sample state s₀) k
 
-  -- what stands at i is as it was
-  pub filled-read : {i : ℕ} {l : List Y} {s : S} → Filled step sample state s₀ l₀ i l s → i < length l₀ → (d : Y) → getD l i d ≡ getD l₀ i d
-  filled-read {i} h lt d =
-      let A = samples step sample state s₀ i in
-      ap (λ (k : List Y). getD k i d) (h .frames ∙ ap (λ (k : List Y). A ++ k) (drop-cons l₀ i d lt)) ∙ getD-at A (getD l₀ i d) (drop (suc i) l₀) d i (samples-length step sample state s₀ i)
-
   -- where the loop stops at n, which may be short of the end
   pub filled-part : {i n : ℕ} {l : List Y} {s : S} → Filled step sample state s₀ l₀ i l s → i ≡ n → l ≡ samples step sample state s₀ n ++ drop n l₀
   filled-part h e = h .frames ∙ ap (λ (k : ℕ). samples step sample state s₀ k ++ drop k l₀) e
-
-  pub filled-part-state : {i n : ℕ} {l : List Y} {s : S} → Filled step sample state s₀ l₀ i l s → i ≡ n → s ≡ stateAt step sample state s₀ n
-  filled-part-state h e = h .reached ∙ ap (stateAt step sample state s₀) e

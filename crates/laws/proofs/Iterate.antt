@@ -1,21 +1,10 @@
--- Use for a loop that at turn n puts `step n s` for its state s, whatever the state is: a list of notes. `Reached` is the loop's invariant. Assumes nothing.
-use Prim.Native.Nat.{ℕ, _+_}
+-- Use for a part of a loop's state that moves by a rule of its own, whatever the rest does: a voice's generator. It is the rule iterated. Assumes nothing.
+use Prim.Native.Nat.{ℕ, zero, suc}
 use mathlib.Core.Path.{_≡_, refl, ap, _∙_}
-use native.Mathlib.Numerals.{add-one}
-use Rattle.laws.specs.Run.{iterate}
+use Rattle.laws.specs.Run.{stateAt, iterate}
 
--- What holds at turn n. (A record, so that a law's implicit arguments are read off it.)
-pub record Reached {S : Type 0} (step : ℕ → S → S) (s₀ : S) (n : ℕ) (s : S) : Type 0 where
-  pub is : s ≡ iterate step s₀ n
-
-module _ {S : Type 0} {step : ℕ → S → S} {s₀ : S} where
-  pub reached-none : Reached step s₀ 0 s₀
-  unfolding iterate
-  reached-none = record { is = refl }
-
-  pub reached-more : {n : ℕ} {s t : S} → Reached step s₀ n s → t ≡ step n s → Reached step s₀ (n + 1) t
-  unfolding iterate
-  reached-more {n} h e = record { is = rw add-one (e ∙ ap (step n) (h .is)) }
-
-  pub reached-all : {i n : ℕ} {s : S} → Reached step s₀ i s → i ≡ n → s ≡ iterate step s₀ n
-  reached-all h e = h .is ∙ ap (iterate step s₀) e
+module _ {S O Y T : Type 0} (step : ℕ → S → O) (sample : O → Y) (state : O → S) (part : S → T) (rule : ℕ → T → T) where
+  pub part-iterated : ((i : ℕ) (s : S) → part (state (step i s)) ≡ rule i (part s)) → (s₀ : S) (n : ℕ) → part (stateAt step sample state s₀ n) ≡ iterate rule (part s₀) n
+  unfolding stateAt iterate
+  part-iterated moved s₀ zero = refl
+  part-iterated moved s₀ (suc n) = moved n (stateAt step sample state s₀ n) ∙ ap (rule n) (part-iterated moved s₀ n)

@@ -1,9 +1,9 @@
 pub mod If
 pub mod Fill
-pub mod Same
+pub mod Own
 pub mod Update
 pub mod Iterate
-pub mod Seek
 pub mod Parts
 pub mod Fold
 pub mod Sweep
+pub mod Listed

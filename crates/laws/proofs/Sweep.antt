@@ -5,7 +5,7 @@ use mathlib.Core.Path.{_≡_, refl, ap, _∙_}
 use mathlib.Core.List.{List, [], _∷_, map, foldl}
 use lib.ListN.{length, getD, set, take}
 use Rattle.laws.specs.Update.{updatedFrom}
-use Rattle.laws.proofs.Update.{Updated, updated-none, updated-more, updated-read, updated-kept}
+use Rattle.laws.proofs.Update.{Updated, updated-none, updated-more, updated-read}
 use Rattle.laws.proofs.Fold.{Folded, folded-none, folded-more, folded-all}
 
 module _ {Y : Type 0} (move : Y → Y) where
@@ -25,9 +25,6 @@ module _ {S Y : Type 0} {add : S → Y → S} {move : Y → Y} {s₀ : S} {l₀ 
   swept-none = record { items = updated-none; sum = folded-none }
 
   module _ {j : ℕ} {l : List Y} {s : S} (h : Swept add move s₀ l₀ j l s) where
-    pub swept-length : length l ≡ length l₀
-    swept-length = updated-kept (h .items)
-
     pub swept-more : {t : S} {y : Y} → j < length l₀ → (d : Y) → t ≡ add s (getD l j d) → y ≡ move (getD l j d) → Swept add move s₀ l₀ (j + 1) (set l j y) t
     swept-more lt d et ey =
         let seen : getD l j d ≡ getD l₀ j d =

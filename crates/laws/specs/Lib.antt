@@ -1,3 +1,3 @@
 pub mod Run
 pub mod Update
-pub mod First
+pub mod Listed

@@ -68,7 +68,8 @@ module _ (start : ℕ) (note : List Float) (env : Adsr) (len rate : ℕ) (gain :
       ap (λ (n : ℕ). getD (take start out ++ mixed note env len rate gain (drop start out)) (n + k) nan) (sym (length-take-le start out s))
       ∙ getD-append-add (take start out) (mixed note env len rate gain (drop start out)) k nan
 
-  pub mixed-within : {j : ℕ} → start + length note ≤ length out → j < length note → getD (mixedAt start note env len rate gain out) (start + j) nan ≡ gained note env len rate gain j (getD out (start + j) nan)
+  pub mixed-within : {j : ℕ} → start + length note ≤ length out → j < length note
+      → getD (mixedAt start note env len rate gain out) (start + j) nan ≡ gained note env len rate gain j (getD out (start + j) nan)
   unfolding mixed
   mixed-within {j} s h =
       let z : 0 + j ≡ j = omega arith in

@@ -2,6 +2,7 @@
 ghost use mathlib.Core.Path.{_≡_};
 ghost use Prim.Native.Nat.{_+_, _≤_};
 ghost use lib.ListN.{length};
+ghost use Rattle.dsl.specs.Domain.{Frames};
 ghost use Rattle.mix.specs.Mix.{silence, mixed, mixedAt};
 use dsl::Adsr;
 use envelope::adsr_env;
@@ -21,8 +22,8 @@ pub fn clear(out: &mut [f32])
 // Adds a note's samples to the frames from its start on. `len` is the note's whole length.
 fn mix(out: &mut [f32], note: &[f32], env: Adsr, len: usize, rate: u32, gain: f32)
     requires { ⌜ length (now note) ≤ length (now out) ⌝ }
-    requires { ⌜ length (now note) ≤ 16777216 ⌝ }
-    requires { ⌜ len ≤ 16777216 ⌝ }
+    requires { ⌜ Frames (length (now note)) ⌝ }
+    requires { ⌜ Frames len ⌝ }
     ensures { λ _. ⌜ now (out .exit) ≡ mixed (now (note .entry)) env len rate gain (now (out .entry)) ⌝ }
 {
     let srf = std::num::nearest_u32_to_f32(rate);
@@ -47,8 +48,8 @@ pub fn mix_at(
     gain: f32,
 )
     requires { ⌜ start + length (now note) ≤ length (now out) ⌝ }
-    requires { ⌜ length (now note) ≤ 16777216 ⌝ }
-    requires { ⌜ len ≤ 16777216 ⌝ }
+    requires { ⌜ Frames (length (now note)) ⌝ }
+    requires { ⌜ Frames len ⌝ }
     ensures { λ _. ⌜ now (out .exit) ≡ mixedAt start (now (note .entry)) env len rate gain (now (out .entry)) ⌝ }
 {
     mix(&mut out[start..], note, env, len, rate, gain);

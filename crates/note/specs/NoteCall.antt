@@ -10,14 +10,15 @@ use Rattle.counts.specs.Draws.{drawsOf}
 use Rattle.voice.specs.Voice.{noteFrames}
 use Rattle.dsl.specs.declared.knobs.SeqVoice.{SeqVoice}
 use Rattle.outcome.specs.Answer.{Result, refused, accepted, unless, seen, outAfter, free}
-use Rattle.note_refusals.specs.NoteRefusals.{noteCallRefusal}
+use Rattle.note_verdict.specs.NoteRefusals.{NoteHanded, noteCallRefusal}
 use Rattle.note.specs.declared.answer.NoteAnswer.{NoteAnswer}
 
 -- "An accepted note call reports e, demand 3's draws with every frame of its output sounded", from the generator's state g
-unfoldable pub noteResultOf : ℕ → SeqVoice → Float → List Float → List Float → ℕ → ℕ → ℕ → Result
-noteResultOf rate voice gain pitch duty n string g =
-    unless (noteCallRefusal rate voice gain pitch duty n string)
-    (accepted (drawsOf (voice .wave) rate (getD pitch 0 nan) n) (noteFrames rate voice gain (λ i. getD pitch i nan) (λ i. getD duty i nan) g n))
+unfoldable pub noteResultOf : NoteHanded → ℕ → Result
+noteResultOf h g =
+    unless (noteCallRefusal h)
+    (accepted (drawsOf (h .voice .wave) (h .rate) (getD (h .pitch) 0 nan) (h .n))
+    (noteFrames (h .rate) (h .voice) (h .gain) (λ i. getD (h .pitch) i nan) (λ i. getD (h .duty) i nan) g (h .n)))
 
 -- What a call was handed and lent, what it answered, and what the lent buffers then hold.
 pub record NoteEvent : Type 0 where
@@ -33,8 +34,19 @@ pub record NoteEvent : Type 0 where
   pub out : List Float
   pub string : List Float
 
+abbrev pub noteHandedIn : NoteEvent → NoteHanded
+noteHandedIn e = record {
+  rate = e .rate;
+  voice = e .voice;
+  gain = e .gain;
+  pitch = e .pitch;
+  duty = e .duty;
+  n = length (e .out₀);
+  string = length (e .string₀);
+}
+
 abbrev pub noteResultIn : NoteEvent → Result
-noteResultIn e = noteResultOf (e .rate) (e .voice) (e .gain) (e .pitch) (e .duty) (length (e .out₀)) (length (e .string₀)) (e .rng .0)
+noteResultIn e = noteResultOf (noteHandedIn e) (e .rng .0)
 
 -- "and hands back its state + e × G modulo 2^64"; a refused call hands back its state
 abbrev pub rngAfter : Rng → Result → Rng

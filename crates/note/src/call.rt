@@ -1,9 +1,10 @@
 // The note call.
 ghost use Rattle.note.specs.NoteCall.{Voiced};
 use crate::answer::NoteAnswer;
+use crate::answer::refused;
 use dsl::Pitch;
 use dsl::SeqVoice;
-use note_refusals::note_call_verdict;
+use note_verdict::note_call_verdict;
 use outcome::Outcome;
 use outcome::Verdict;
 use rng::Rng;
@@ -38,10 +39,7 @@ pub fn seq_note_signal(
     let n = out.len();
     let verdict = note_call_verdict(rate, voice, gain, pitch, duty, n, string.len());
     if let Verdict::Refuse(r) = verdict {
-        return NoteAnswer {
-            rng,
-            outcome: Outcome::Refused(r),
-        };
+        return refused(rng, r);
     }
     let wave = voice.wave;
     let e = counts::draw_count(wave, rate, pitch[0], n);

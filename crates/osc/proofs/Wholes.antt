@@ -1,4 +1,4 @@
--- The whole part of a number from 0 up to 2. Cite it where the code takes off 0 or 1 and the definition a floor or a truncation. Assumes nothing.
+-- The whole part of a number from 0 up to 2, where the code takes off 0 or 1 and the definition a floor; and above 0 a floor is a truncation. Assumes nothing.
 use mathlib.Core.Path.{_≡_, refl, sym, ap, _∙_}
 use Prim.Native.Nat.{ℕ, zero, suc, _+_, _-_, _*_, _/_, _^_, _≤_, _<_}
 use native.Mathlib.Nat.{mul-one, mul-left-comm, pow-succ', div-eq-of-lt}
@@ -21,7 +21,7 @@ no-number n p q = omega arith
 below-one : (m d : ℕ) → m * 1 * 1 < 1 * 1 * d → m < d
 below-one m d h = omega arith
 
-pub cut-none : (x : Float) → lt c0 x ≡ true → lt x c1 ≡ true → c0 ≡ truncOf x
+cut-none : (x : Float) → lt c0 x ≡ true → lt x c1 ≡ true → c0 ≡ truncOf x
 unfolding lt whole ofBits odd
 cut-none nan p q = absurd (false≢true p)
 cut-none (inf true) p q = absurd (false≢true p)
@@ -37,6 +37,9 @@ sign-none (inf true) p = absurd (false≢true p)
 sign-none (inf false) p = refl
 sign-none (fin true m e) p = absurd (false≢true p)
 sign-none (fin false m e) p = refl
+
+pub floor-cut : (x : Float) → lt c0 x ≡ true → floorOf x ≡ truncOf x
+floor-cut x p = sym (if-false _ (sign-none x p) refl)
 
 pub floor-none : (x : Float) → lt c0 x ≡ true → lt x c1 ≡ true → c0 ≡ floorOf x
 floor-none x p q = if-false _ (sign-none x p) (cut-none x p q)
@@ -69,7 +72,7 @@ not-minus : (m : ℕ) (e : ℤ) → lt (fin true m e) c1 ≡ false → ⊥
 unfolding lt ofBits
 not-minus m e p = not-none (m * up e) (down e) (down-pos e) (ltb-false _ _ p)
 
-pub cut-one : (x : Float) → lt x c1 ≡ false → lt x c2 ≡ true → c1 ≡ truncOf x
+cut-one : (x : Float) → lt x c1 ≡ false → lt x c2 ≡ true → c1 ≡ truncOf x
 unfolding lt whole ofBits
 cut-one nan p q = absurd (false≢true q)
 cut-one (inf true) p q = absurd (true≢false p)

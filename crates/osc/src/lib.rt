@@ -1,6 +1,6 @@
 // render/osc.rs: the oscillators, and the steps that most voices share.
 ghost use mathlib.Core.Path.{_≡_};
-ghost use Prim.Native.Nat.{_≤_};
+ghost use Rattle.dsl.specs.Domain.{Frames};
 ghost use Rattle.osc.specs.Osc.{polyBlep, oscOf, sawOf};
 ghost use Rattle.osc.specs.Phase.{wrapped, increment, seconds};
 
@@ -80,7 +80,7 @@ pub fn phase_step(pitch: f32, srf: f32) -> f32
 // The time of frame i in seconds. Up to 2^24 frames i is an f32 exactly; from an i32 a processor
 // converts it in one instruction.
 pub fn frame_time(i: usize, srf: f32) -> f32
-    requires { ⌜ i ≤ 16777216 ⌝ }
+    requires { ⌜ Frames i ⌝ }
     ensures { λ r. ⌜ r ≡ seconds srf i ⌝ }
 {
     ((i as i32) as f32) / srf

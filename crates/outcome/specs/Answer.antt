@@ -1,9 +1,9 @@
 -- What a call comes to, by 01's numbers, and what it leaves.
-use Prim.Native.Nat.{ℕ, zero, suc}
-use mathlib.Core.List.{List}
+use Prim.Native.Nat.{ℕ}
+use mathlib.Core.List.{List, []}
 use lib.Ieee.{Float}
 use Rattle.outcome.specs.declared.answer.Refusal.{Refusal}
-use Rattle.outcome.specs.declared.answer.Refusal.the-variants.{Rate, Frames, Tempo, StepsPerBeat, Groove, Knobs, Words, Kind, Place, Size, Lane, Reach, NoPitch, Lengths, NoteBuffer, StringBuffer, Draws}
+use Rattle.outcome.specs.declared.answer.Refusal.the-variants.{Rate, Frames, Tempo, StepsPerBeat, Groove, Knobs, Words, Kind, Steps, Size, Lane, Reach, NoPitch, Lengths, NoteBuffer, StringBuffer, Draws}
 use Rattle.outcome.specs.declared.answer.Outcome.{Outcome}
 use Rattle.outcome.specs.declared.answer.Outcome.the-variants.{Played, Refused}
 use Rattle.outcome.specs.declared.answer.Verdict.{Verdict}
@@ -19,7 +19,7 @@ numberOf Groove = 5
 numberOf Knobs = 6
 numberOf Words = 7
 numberOf Kind = 8
-numberOf Place = 9
+numberOf Steps = 9
 numberOf Size = 10
 numberOf Lane = 11
 numberOf Reach = 12
@@ -29,25 +29,30 @@ numberOf NoteBuffer = 20
 numberOf StringBuffer = 21
 numberOf Draws = 22
 
--- 0: nothing is refused
-abbrev pub verdictNumber : Verdict → ℕ
-verdictNumber Fine = 0
-verdictNumber (Refuse r) = numberOf r
-
 -- a refusal's number, or an accepted call's draws and frames
 pub data Result : Type 0 where
   refused : ℕ → Result
   accepted : ℕ → List Float → Result
 
--- r, unless a number that is not 0 refuses it
-abbrev pub unless : ℕ → Result → Result
-unless zero r = r
-unless (suc number) r = refused (suc number)
+-- r, unless it is refused
+abbrev pub unless : Verdict → Result → Result
+unless Fine r = r
+unless (Refuse why) r = refused (numberOf why)
 
 -- an answer with the frames that were left
 abbrev pub seen : Outcome → List Float → Result
 seen (Played draws) out = accepted draws out
 seen (Refused r) out = refused (numberOf r)
+
+-- the draws that a call reports: a refused one 0
+abbrev pub reported : Result → ℕ
+reported (refused number) = 0
+reported (accepted draws frames) = draws
+
+-- the frames of an accepted call
+abbrev pub framesIn : Result → List Float
+framesIn (refused number) = []
+framesIn (accepted draws frames) = frames
 
 -- "A refusal .. changes nothing"
 abbrev pub outAfter : List Float → Result → List Float

@@ -1,1 +1,3 @@
 pub mod Answer
+pub mod First
+pub mod Domain

@@ -3,6 +3,10 @@
 // and then the text score's bytes, as many as LENGTH says; the reply has REPLY bytes, each a point
 // before the call. The line is written again, with the call's answer and a hash of the whole reply.
 // After a line that starts with `show` the reply follows, and a newline.
+//
+// `compare replay-vectors` writes stdin and stdout, by the original's code and no listing of ours
+// (compare/src/text_cases.rs has the cases). Each wave has among them a short score, one of 2,048
+// frames at 48,000 a second through a chord, and one note held over 2,048 frames at 8,000 a second.
 ghost use Prim.Native.Nat.{_≤_, _<_};
 ghost use lib.ListN.{length};
 use libc::STDIN_FILENO;

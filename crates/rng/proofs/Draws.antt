@@ -87,17 +87,23 @@ module _ (k : ℕ) (h : k < 2 ^ 24) where
 -- "exactly k / 2^23 − 1", by its sign and its size
 pub bi-low : (k : ℕ) → k < 2 ^ 23 → HasValue (biOf k) true (2 ^ 23 - k) (2 ^ 23)
 unfolding biOf
-bi-low k h = subst (λ (b : Bool). HasValue (cond b (exactly true (2 ^ 23 - k) 23) (exactly false (k - 2 ^ 23) 23)) true (2 ^ 23 - k) (2 ^ 23)) (sym (lt-ltb k (2 ^ 23) h)) (exactly-value true (2 ^ 23 - k) 23)
+bi-low k h =
+    subst (λ (b : Bool). HasValue (cond b (exactly true (2 ^ 23 - k) 23) (exactly false (k - 2 ^ 23) 23)) true (2 ^ 23 - k) (2 ^ 23))
+    (sym (lt-ltb k (2 ^ 23) h)) (exactly-value true (2 ^ 23 - k) 23)
 
 pub bi-high : (k : ℕ) → 2 ^ 23 ≤ k → HasValue (biOf k) false (k - 2 ^ 23) (2 ^ 23)
 unfolding biOf
-bi-high k h = subst (λ (b : Bool). HasValue (cond b (exactly true (2 ^ 23 - k) 23) (exactly false (k - 2 ^ 23) 23)) false (k - 2 ^ 23) (2 ^ 23)) (sym (le-ltb k (2 ^ 23) h)) (exactly-value false (k - 2 ^ 23) 23)
+bi-high k h =
+    subst (λ (b : Bool). HasValue (cond b (exactly true (2 ^ 23 - k) 23) (exactly false (k - 2 ^ 23) 23)) false (k - 2 ^ 23) (2 ^ 23))
+    (sym (le-ltb k (2 ^ 23) h)) (exactly-value false (k - 2 ^ 23) 23)
 
 -- "so never 1"
 below-one : (x : Float) (a c : ℕ) → HasValue x true a c → T (lt x (fin false 1 (pos 0)))
 unfolding lt
 below-one (fin s m e) a c v =
-    subst (λ (s : Bool). T (below s (m * up e * 1) false (1 * 1 * down e))) (sym (v .0)) (lt→ltb 0 (m * up e * 1 + 1 * 1 * down e) (lt-of-lt-of-le (mul-pos (zero-lt-suc 0) (down-pos e)) (le-add-left (1 * 1 * down e) (m * up e * 1))))
+    let M = m * up e * 1 in
+    let D = 1 * 1 * down e in
+    subst (λ (s : Bool). T (below s M false D)) (sym (v .0)) (lt→ltb 0 (M + D) (lt-of-lt-of-le (mul-pos (zero-lt-suc 0) (down-pos e)) (le-add-left D M)))
 
 pub bi-below-one : (k : ℕ) → k < 2 ^ 24 → T (lt (biOf k) (fin false 1 (pos 0)))
 bi-below-one k h = go (ltb k (2 ^ 23)) (ltb→lt k (2 ^ 23)) (nltb→le k (2 ^ 23))

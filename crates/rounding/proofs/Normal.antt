@@ -33,7 +33,10 @@ module _ (s : Bool) (M : ℕ) (h : M < 2 ^ 63) where
   unfolding ofBits
   as-fields = go s
     where
-      go : (s : Bool) → ofFields binary64 (leb (2 ^ 63) (cond s (2 ^ 63) 0 + M)) ((cond s (2 ^ 63) 0 + M) % 2 ^ 63 / 2 ^ 52) ((cond s (2 ^ 63) 0 + M) % 2 ^ 52) ≡ ofFields binary64 s (M / 2 ^ 52) (M % 2 ^ 52)
+      pattern : Bool → ℕ
+      pattern s = cond s (2 ^ 63) 0 + M
+
+      go : (s : Bool) → ofFields binary64 (leb (2 ^ 63) (pattern s)) (pattern s % 2 ^ 63 / 2 ^ 52) (pattern s % 2 ^ 52) ≡ ofFields binary64 s (M / 2 ^ 52) (M % 2 ^ 52)
       go true =
           let a : 2 ^ 63 ≤ 2 ^ 63 + M = omega arith in
           let b : (2 ^ 63 + M) % 2 ^ 63 / 2 ^ 52 ≡ M / 2 ^ 52 = omega arith in
@@ -89,13 +92,15 @@ module _ (s : Bool) (M : ℕ) (lo : 0x3810_0000_0000_0000 ≤ M) (hi : M < 0x47f
 
   pattern-is : closest (M - 0x3800_0000_0000_0000) (2 ^ 29) ≡ k * 2 ^ 23 + closest q (2 ^ 29)
   pattern-is =
-      ap (λ (n : ℕ). closest n (2 ^ 29)) parted ∙ closest-add q (2 ^ 29) (k * 2 ^ 23) (pow-pos 29) (omega arith) ∙ (let e : closest q (2 ^ 29) + k * 2 ^ 23 ≡ k * 2 ^ 23 + closest q (2 ^ 29) = omega arith in e)
+      let swap : closest q (2 ^ 29) + k * 2 ^ 23 ≡ k * 2 ^ 23 + closest q (2 ^ 29) = omega arith in
+      ap (λ (n : ℕ). closest n (2 ^ 29)) parted ∙ closest-add q (2 ^ 29) (k * 2 ^ 23) (pow-pos 29) (omega arith) ∙ swap
     where
       parted : M - 0x3800_0000_0000_0000 ≡ q + k * 2 ^ 23 * 2 ^ 29
       parted = unfold q k in omega arith
 
   -- as the code computes it
-  pub narrow-normal : (n : ℕ) → n ≡ (M - 0x3800_0000_0000_0000 + 0xfff_ffff + (M - 0x3800_0000_0000_0000) / 2 ^ 29 % 2) / 2 ^ 29 → ofBits binary32 (cond s (2 ^ 31) 0 + n) ≡ narrowOf (ofBits binary64 (cond s (2 ^ 63) 0 + M))
+  pub narrow-normal : (n : ℕ) → n ≡ (M - 0x3800_0000_0000_0000 + 0xfff_ffff + (M - 0x3800_0000_0000_0000) / 2 ^ 29 % 2) / 2 ^ 29
+      → ofBits binary32 (cond s (2 ^ 31) 0 + n) ≡ narrowOf (ofBits binary64 (cond s (2 ^ 63) 0 + M))
   narrow-normal n e =
       ap (λ (i : ℕ). ofBits binary32 (cond s (2 ^ 31) 0 + i)) (e ∙ rounded-cut (M - 0x3800_0000_0000_0000) ∙ pattern-is)
       ∙ pack-to s (closest q (2 ^ 29)) k (closest-le q 29 24 q-lt) (closest-ge q 29 23 q-ge) k-le
@@ -106,7 +111,9 @@ module _ (s : Bool) (M : ℕ) (lo : 0x3810_0000_0000_0000 ≤ M) (hi : M < 0x47f
 
 -- ---- a pattern is its sign and its magnitude
 pub sign-magnitude : (x : Float) → T (fits binary64 x) → ofBits binary64 (cond (leb (2 ^ 63) (toBits binary64 x)) (2 ^ 63) 0 + toBits binary64 x % 2 ^ 63) ≡ x
-sign-magnitude x fit = ap (ofBits binary64) (go (toBits binary64 x) (toBits-lt binary64 x fit) (leb (2 ^ 63) (toBits binary64 x)) (leb→le (2 ^ 63) (toBits binary64 x)) (nleb→lt (2 ^ 63) (toBits binary64 x))) ∙ ofBits-toBits binary64 x fit
+sign-magnitude x fit =
+    let b = toBits binary64 x in
+    ap (ofBits binary64) (go b (toBits-lt binary64 x fit) (leb (2 ^ 63) b) (leb→le (2 ^ 63) b) (nleb→lt (2 ^ 63) b)) ∙ ofBits-toBits binary64 x fit
   where
     go : (b : ℕ) → b < 2 ^ 64 → (t : Bool) → (T t → 2 ^ 63 ≤ b) → (T (not t) → b < 2 ^ 63) → cond t (2 ^ 63) 0 + b % 2 ^ 63 ≡ b
     go b h true p q = let l = p tt in omega arith

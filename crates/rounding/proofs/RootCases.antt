@@ -73,7 +73,8 @@ root-zero nan t = absurd (false≢true t)
 root-zero (inf s) t = absurd (false≢true t)
 root-zero (fin s zero e) t = refl
 root-zero (fin s (suc m) e) t =
-    absurd (no-product m e (0 * down e) (zero-mul (down e)) (eqb→eq (suc m * up e * 1) (0 * down e) (and-l (eqb (suc m * up e * 1) (0 * down e)) (Bool·beq s false || eqb (suc m * up e * 1) 0) (subst T (sym t) tt))))
+    let M = suc m * up e * 1 in
+    absurd (no-product m e (0 * down e) (zero-mul (down e)) (eqb→eq M (0 * down e) (and-l (eqb M (0 * down e)) (Bool·beq s false || eqb M 0) (subst T (sym t) tt))))
 
 none-below : (a b : ℕ) → b ≡ 0 → a < b → ⊥
 none-below a b e h = omega arith

@@ -1,25 +1,28 @@
 -- One note of a score, sounded or skipped. Use where code looks at a note's place. Assumes nothing.
-use Prim.Native.Nat.{_+_, _≤_, _<_}
-use mathlib.Core.Path.{_≡_, refl}
+use Prim.Native.Nat.{ℕ, zero, suc, _+_, _≤_, _<_}
+use mathlib.Core.Path.{_≡_, refl, ap, _∙_}
+use mathlib.Core.List.{List, [], _∷_, _++_, map}
 use mathlib.Core.Bool.{true, false}
 use native.Mathlib.Omega.{arith}
 use borrow.Author.Tests.{le-leb, leb-true, leb-false}
+use Rattle.laws.specs.Listed.{listedFrom, listed}
 use Rattle.laws.proofs.If.{if-true, if-false}
+use Rattle.laws.proofs.Listed.{listed-more}
 use Rattle.dsl.specs.Domain.{Frames}
 use Rattle.dsl.specs.declared.note.SeqNote.{SeqNote}
+use Rattle.dsl.specs.declared.note.Decoded.{Decoded}
 use Rattle.dsl.specs.declared.note.Decoded.the-variants.{Note}
-use Rattle.groove.specs.Length.{skipped}
 use Rattle.counts.specs.Draws.{drawsOf}
 use Rattle.groove.proofs.Room.{length-least, length-most, sounded-some, sounded-none, sounded-within}
-use Rattle.score.specs.Score.{Score, durOf, placeOf, place, pitch, drawsIn, noteDraws}
+use Rattle.score.specs.Score.{Score, rateIn, waveIn, noteIn, noteCount, durOf, placeOf, place, skips, pitch, drawsIn, noteDraws, sum, scoreDraws, drawsBefore}
 
 module _ (s : Score) (m : SeqNote) where
-  pub len-most : Frames (s .n) → place s m .len ≤ 16777216
+  pub len-most : Frames (s .n) → Frames (place s m .len)
   unfolding placeOf
-  len-most h = omega (arith, length-most (m .len) (durOf (s .seq)) (s .n) h, h .most)
+  len-most h = record { most = omega (arith, length-most (m .len) (durOf (s .seq .timing)) (s .n) h, h .most) }
 
   -- a skipped note: no frame of it sounds, and it changes nothing
-  pub none-sounded : skipped (s .n) (place s m .start) ≡ true → place s m .sounded ≡ 0
+  pub none-sounded : skips s m ≡ true → place s m .sounded ≡ 0
   unfolding placeOf
   none-sounded past = sounded-none (s .n) _ _ (leb-true (s .n) _ past)
 
@@ -29,7 +32,7 @@ module _ (s : Score) (m : SeqNote) where
     skipped-draws = if-true _ (le-leb _ _ late) refl
 
   -- a sounded note: a length is at least 1, so that some frame of it sounds, and those that do are the score's
-  module _ (heard : skipped (s .n) (place s m .start) ≡ false) where
+  module _ (heard : skips s m ≡ false) where
     pub some-sounded : 0 < place s m .sounded
     unfolding placeOf
     some-sounded = sounded-some (s .n) _ _ (leb-false (s .n) _ heard) (length-least (m .len) _ (s .n))
@@ -38,6 +41,24 @@ module _ (s : Score) (m : SeqNote) where
     unfolding placeOf
     all-within = sounded-within (s .n) _ _ (leb-false (s .n) _ heard)
 
-    pub sounded-draws : drawsOf (s .seq .voice .wave) (s .seq .rate) (pitch s m 0) (place s m .sounded) ≡ noteDraws s (Note m)
+    pub sounded-draws : drawsOf (waveIn s) (rateIn s) (pitch s m 0) (place s m .sounded) ≡ noteDraws s (Note m)
     unfolding noteDraws drawsIn
     sounded-draws = if-false _ heard refl
+
+-- ---- all notes
+sum-end : (f : Decoded → ℕ) (xs : List Decoded) (x : Decoded) → sum (map f (xs ++ (x ∷ []))) ≡ sum (map f xs) + f x
+unfolding sum
+sum-end f [] x = omega arith
+sum-end f (y ∷ ys) x = omega (arith, sum-end f ys x)
+
+-- the draws of the first k notes are a sum over the list of them
+draws-listed : (s : Score) (k : ℕ) → sum (map (noteDraws s) (listed (noteIn s) k)) ≡ drawsBefore s k
+unfolding sum drawsBefore listedFrom
+draws-listed s zero = refl
+draws-listed s (suc k) =
+    ap (λ (l : List Decoded). sum (map (noteDraws s) l)) (listed-more (noteIn s) k) ∙ sum-end (noteDraws s) (listed (noteIn s) k) (noteIn s k)
+    ∙ ap (λ (d : ℕ). d + noteDraws s (noteIn s k)) (draws-listed s k)
+
+pub draws-all : (s : Score) → scoreDraws s ≡ drawsBefore s (noteCount s)
+unfolding scoreDraws
+draws-all s = draws-listed s (noteCount s)

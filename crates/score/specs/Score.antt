@@ -1,51 +1,80 @@
--- A score call's numbers, voice, note words and lane, as values, and what 01 makes of them: where each note stands, and its draws.
+-- What a score call is handed, as values, and what 01 makes of it: where each note stands, and its draws.
 use Prim.Native.Nat.{ℕ, zero, suc, _+_, _*_, _/_}
-use mathlib.Core.List.{List}
-use mathlib.Core.Bool.{cond}
+use mathlib.Core.List.{List, [], _∷_, map}
+use mathlib.Core.Bool.{Bool, cond}
 use lib.ListN.{length, getD}
 use lib.Ieee.{Float}
-use Rattle.dsl.specs.Note.{noteOf}
+use Rattle.laws.specs.Listed.{listed}
+use Rattle.dsl.specs.Note.{noteOf, ofNote}
 use Rattle.dsl.specs.Pitch.{pitchAt}
+use Rattle.dsl.specs.declared.wave.SeqWave.{SeqWave}
 use Rattle.dsl.specs.declared.note.SeqNote.{SeqNote}
 use Rattle.dsl.specs.declared.note.Decoded.{Decoded}
-use Rattle.dsl.specs.declared.note.Decoded.the-variants.{Note, Kind}
 use Rattle.groove.specs.Timing.{stepDur, grooveOf}
 use Rattle.groove.specs.Length.{lengthOf, skipped, soundedOf}
 use Rattle.counts.specs.Draws.{drawsOf}
 use Rattle.score.specs.declared.seq.Seq.{Seq}
+use Rattle.score.specs.declared.seq.Timing.{Timing}
+use Rattle.score.specs.declared.seq.Lent.{Lent}
 use Rattle.score.specs.declared.place.Place.{Place}
 
--- n is the length of the output
+-- "each score call's numbers, voice, note words and lane, as values, and the lengths of its lent buffers": n is the output's, `room` the note buffer's, `string` the string
+-- buffer's
 pub record Score : Type 0 where
   pub seq : Seq
   pub notes : List ℕ
   pub lane : List Float
   pub n : ℕ
+  pub room : ℕ
+  pub string : ℕ
 
-abbrev pub scoreOf : Seq → List ℕ → List Float → ℕ → Score
-scoreOf seq notes lane n = record { seq = seq; notes = notes; lane = lane; n = n }
+abbrev pub scoreOf : Seq → List ℕ → List Float → Lent → Score
+scoreOf seq notes lane lent = record { seq = seq; notes = notes; lane = lane; n = lent .n; room = lent .room; string = lent .string }
+
+-- the same from the lent buffers themselves
+abbrev pub handed : Seq → List ℕ → List Float → List Float → List Float → List Float → Score
+handed seq notes lane out buffer string = scoreOf seq notes lane (record { n = length out; room = length buffer; string = length string })
+
+module _ (s : Score) where
+  abbrev pub rateIn : ℕ
+  rateIn = s .seq .timing .rate
+
+  abbrev pub waveIn : SeqWave
+  waveIn = s .seq .voice .wave
 
 -- "A note is five u32 words: step, len, kind .., f32 bits or offset, gain bits"
 unfoldable pub noteAt : List ℕ → ℕ → Decoded
-noteAt notes k = noteOf (getD notes (k * 5) 0) (getD notes (k * 5 + 1) 0) (getD notes (k * 5 + 2) 0) (getD notes (k * 5 + 3) 0) (getD notes (k * 5 + 4) 0)
+noteAt words k = noteOf (getD words (k * 5) 0) (getD words (k * 5 + 1) 0) (getD words (k * 5 + 2) 0) (getD words (k * 5 + 3) 0) (getD words (k * 5 + 4) 0)
 
-abbrev pub count : Score → ℕ
-count s = length (s .notes) / 5
+-- how many notes there are
+abbrev pub noteCount : Score → ℕ
+noteCount s = length (s .notes) / 5
+
+abbrev pub noteIn : Score → ℕ → Decoded
+noteIn s k = noteAt (s .notes) k
+
+-- the notes, as a list
+abbrev pub notesIn : Score → List Decoded
+notesIn s = listed (noteIn s) (noteCount s)
 
 -- samples per step
-abbrev pub durOf : Seq → Float
-durOf q = stepDur (q .rate) (q .tempo) (q .«steps_per_beat»)
+abbrev pub durOf : Timing → Float
+durOf t = stepDur (t .rate) (t .tempo) (t .«steps_per_beat»)
 
--- module 4: where a note stands among n frames
-unfoldable pub placeOf : Seq → ℕ → SeqNote → Place
-placeOf q n m =
-    let g = grooveOf m (q .swing) (q .humanize) (durOf q) in
-    let len = lengthOf (m .len) (durOf q) n in
+-- module 4: where a note stands among n frames. Nothing else looks at the timing.
+unfoldable pub placeOf : Timing → ℕ → SeqNote → Place
+placeOf t n m =
+    let g = grooveOf m (t .swing) (t .humanize) (durOf t) in
+    let len = lengthOf (m .len) (durOf t) n in
     record { start = g .start; len = len; sounded = soundedOf n (g .start) len; gain = g .gain }
 
 module _ (s : Score) (m : SeqNote) where
   abbrev pub place : Place
-  place = placeOf (s .seq) (s .n) m
+  place = placeOf (s .seq .timing) (s .n) m
+
+  -- "A note with start ≥ n is skipped"
+  abbrev pub skips : Bool
+  skips = skipped (s .n) (place .start)
 
   -- the note's pitch, by frame
   abbrev pub pitch : ℕ → Float
@@ -53,18 +82,21 @@ module _ (s : Score) (m : SeqNote) where
 
   -- e: demand 3's draws of a sounded note; "A skipped note leaves x"
   unfoldable pub drawsIn : ℕ
-  drawsIn = cond (skipped (s .n) (place .start)) 0 (drawsOf (s .seq .voice .wave) (s .seq .rate) (pitch 0) (place .sounded))
+  drawsIn = cond skips 0 (drawsOf (waveIn s) (rateIn s) (pitch 0) (place .sounded))
 
 -- the same of five words; those of no kind are refused with 8, and never played
 unfoldable pub noteDraws : Score → Decoded → ℕ
-noteDraws s (Note m) = drawsIn s m
-noteDraws s Kind = 0
+noteDraws s = ofNote 0 (drawsIn s)
+
+unfoldable pub sum : List ℕ → ℕ
+sum [] = 0
+sum (x ∷ xs) = x + sum xs
+
+-- "D is the sum of demand 3's draws over the call's own sounded notes."
+unfoldable pub scoreDraws : Score → ℕ
+scoreDraws s = sum (map (noteDraws s) (notesIn s))
 
 -- the draws of the first k notes
 unfoldable pub drawsBefore : Score → ℕ → ℕ
 drawsBefore s zero = 0
-drawsBefore s (suc k) = drawsBefore s k + noteDraws s (noteAt (s .notes) k)
-
--- "D is the sum of demand 3's draws over the call's own sounded notes."
-unfoldable pub scoreDraws : Score → ℕ
-scoreDraws s = drawsBefore s (count s)
+drawsBefore s (suc k) = drawsBefore s k + noteDraws s (noteIn s k)

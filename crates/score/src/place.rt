@@ -4,7 +4,7 @@ ghost use Prim.Native.Nat.{_+_, _*_, _<_};
 ghost use lib.ListN.{length};
 ghost use Rattle.dsl.specs.Domain.{Frames, numeric};
 ghost use Rattle.score.specs.Score.{noteAt, placeOf};
-use crate::seq::Seq;
+use crate::seq::Timing;
 use dsl::Decoded;
 use dsl::SeqNote;
 
@@ -32,13 +32,13 @@ pub struct Place {
     pub gain: f32,
 }
 
-pub fn place_note(seq: Seq, n: usize, note: SeqNote) -> Place
+pub fn place_note(timing: Timing, n: usize, note: SeqNote) -> Place
     requires { ⌜ Frames n ⌝ }
     requires { ⌜ numeric (note .pitch) ⌝ }
-    ensures { λ r. ⌜ r ≡ placeOf seq n note ⌝ }
+    ensures { λ r. ⌜ r ≡ placeOf timing n note ⌝ }
 {
-    let step_dur = groove::step_dur(seq.rate, seq.tempo, seq.steps_per_beat);
-    let groove = groove::groove_note(note, seq.swing, seq.humanize, step_dur);
+    let step_dur = groove::step_dur(timing.rate, timing.tempo, timing.steps_per_beat);
+    let groove = groove::groove_note(note, timing.swing, timing.humanize, step_dur);
     let len = groove::note_len(note.len, step_dur, n);
     Place {
         start: groove.start,

@@ -1,15 +1,27 @@
-// The numbers and the voice of a score call.
+// What a score call is handed beside its notes and its lane.
 use dsl::Adsr;
 use dsl::SeqVoice;
 
-// `Node::Seq` of the source, and the rate. The duty of a score is a number.
-pub struct Seq {
+// The rate, and what says where notes stand.
+pub struct Timing {
     pub rate: u32,
     pub tempo: f32,
     pub steps_per_beat: u32,
     pub swing: f32,
     pub humanize: f32,
+}
+
+// `Node::Seq` of the source, and the rate. The duty of a score is a number.
+pub struct Seq {
+    pub timing: Timing,
     pub voice: SeqVoice,
     pub duty: f32,
     pub env: Adsr,
+}
+
+// How long the lent buffers are: the output, the note buffer and the string buffer.
+pub struct Lent {
+    pub n: usize,
+    pub room: usize,
+    pub string: usize,
 }

@@ -7,12 +7,13 @@
 ghost use Prim.Native.Nat.{_≤_};
 use dsl::Adsr;
 use dsl::SeqVoice;
-use knobs::EnvAt;
-use knobs::VoiceAt;
+use harness_knobs::EnvAt;
+use harness_knobs::VoiceAt;
 use libc::STDIN_FILENO;
 use outcome::Outcome;
 use rng::Rng;
 use score::Seq;
+use score::Timing;
 use session::Session;
 
 // How many values of a kind a line can have.
@@ -49,23 +50,26 @@ fn words(line: &[u8], from: usize) -> [u32; 64]
 fn voice_of(line: &[u8]) -> VoiceAt {
     let count = vectors::length_field(line, 11, MOST);
     let values = floats(line, 15);
-    knobs::voice_at(vectors::u32_field(line, 6), &values[..count])
+    harness_knobs::voice_at(vectors::u32_field(line, 6), &values[..count])
 }
 
 fn env_of(line: &[u8]) -> EnvAt {
     let from = 15 + vectors::length_field(line, 11, MOST);
     let count = vectors::length_field(line, 12, MOST);
     let values = floats(line, from);
-    knobs::env_at(&values[..count])
+    harness_knobs::env_at(&values[..count])
 }
 
 fn seq_of(line: &[u8], voice: SeqVoice, env: Adsr) -> Seq {
-    Seq {
+    let timing = Timing {
         rate: vectors::u32_field(line, 1),
         tempo: vectors::f32_field(line, 2),
         steps_per_beat: vectors::u32_field(line, 3),
         swing: vectors::f32_field(line, 4),
         humanize: vectors::f32_field(line, 5),
+    };
+    Seq {
+        timing,
         voice,
         duty: vectors::f32_field(line, 7),
         env,

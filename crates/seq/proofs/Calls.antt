@@ -1,6 +1,7 @@
 -- The ways in which a score call ends. Assumes nothing.
 use Prim.Native.Nat.{ℕ, _+_, _-_, _^_, _≤_, _<_}
 use mathlib.Core.Path.{_≡_, refl, sym, ap, _∙_}
+use mathlib.Core.List.{[], _∷_}
 use mathlib.Core.Bool.{Bool, true, false, cond}
 use native.Mathlib.Omega.{arith}
 use borrow.Author.Tests.{ltb-true, ltb-false, lt-ltb, le-ltb}
@@ -8,22 +9,21 @@ use lib.ListN.{length, drop}
 use lib.Dec.{ltb}
 use Rattle.rng.specs.SplitMix64.{stateAfter}
 use Rattle.rng.specs.declared.Rng.{Rng}
-use Rattle.dsl.specs.Domain.{Rate, Frames}
-use Rattle.outcome.specs.Answer.{numberOf, Result, refused, accepted, unless, seen, outAfter, free}
+use Rattle.outcome.specs.Answer.{Result, accepted, unless, seen, outAfter, free}
 use Rattle.outcome.specs.declared.answer.Outcome.the-variants.{Played, Refused}
 use Rattle.outcome.specs.declared.answer.Refusal.{Refusal}
 use Rattle.outcome.specs.declared.answer.Refusal.the-variants.{Draws}
-use Rattle.outcome.proofs.Refusing.{refuses}
+use Rattle.outcome.specs.First.{_⇒_, firstOf, orElse}
+use Rattle.outcome.specs.declared.answer.Verdict.{Verdict}
+use Rattle.outcome.specs.declared.answer.Verdict.the-variants.{Fine, Refuse}
 use Rattle.score.specs.Score.{Score, scoreDraws}
-use Rattle.calls.specs.Frames.{scoreFrames}
-use Rattle.score.specs.Refusals.{refusal, refusalAt, Clean}
-use Rattle.calls.specs.ScoreCall.{Event, Scored, scoreIn, sessionAfter, resultOf, resultIn}
+use Rattle.score_contract.specs.Frames.{scoreFrames}
+use Rattle.score.specs.Refusals.{refusal, refusalAt}
+use Rattle.score_contract.specs.ScoreCall.{Event, Scored, scoreIn, sessionAfter, resultOf, resultIn}
 use Rattle.session.specs.declared.Session.{Session}
 use Rattle.session.specs.declared.Answer.{Answer}
-use Rattle.score.proofs.Accepted.{accepted-score}
-use Rattle.draws.specs.Sum.{sumOf}
-use Rattle.draws.specs.declared.Sum.the-variants.{Over, Total}
-use Rattle.verdict.proofs.Order.{or-first}
+use Rattle.score_draws.specs.Sum.{sumOf}
+use Rattle.score_draws.specs.declared.Sum.the-variants.{Over, Total}
 
 -- ---- 22 applies where none before it does and the draws pass what is left
 over-is : (b : Bool) (D : ℕ) → Over ≡ cond b Over (Total D) → b ≡ true
@@ -41,43 +41,39 @@ module _ (left D t : ℕ) (e : Total t ≡ sumOf left D) where
   total-fits : D ≤ left
   total-fits = ltb-false left D (total-is (ltb left D) D t e .0)
 
-module _ (s : Score) (room string d : ℕ) where
-  refused-first : (r : Refusal) → numberOf r ≡ refusal s room string → numberOf r ≡ refusalAt s room string d
+module _ (s : Score) (d : ℕ) where
+  refused-first : {r : Refusal} → Refuse r ≡ refusal s → Refuse r ≡ refusalAt s d
   unfolding refusalAt
-  refused-first r e = or-first r (refusal s room string) (cond (ltb (2 ^ 64 - 1) (d + scoreDraws s)) 22 0) e
+  refused-first e = ap (λ (v : Verdict). orElse v (firstOf ((ltb (2 ^ 64 - 1) (d + scoreDraws s) ⇒ Draws) ∷ []))) e
 
-  module _ (none : refusal s room string ≡ 0) (fits : d < 2 ^ 64) where
-    refused-last : Over ≡ sumOf (2 ^ 64 - 1 - d) (scoreDraws s) → 22 ≡ refusalAt s room string d
-    unfolding refusalAt
+  module _ (none : Fine ≡ refusal s) (fits : d < 2 ^ 64) where
+    refused-last : Over ≡ sumOf (2 ^ 64 - 1 - d) (scoreDraws s) → Refuse Draws ≡ refusalAt s d
+    unfolding refusalAt firstOf
     refused-last o =
         let h : 2 ^ 64 - 1 < d + scoreDraws s = omega (arith, ltb-true (2 ^ 64 - 1 - d) (scoreDraws s) (over-is _ _ o)) in
-        rw (none, lt-ltb _ _ h)
+        rw (sym none, lt-ltb _ _ h)
 
-    refused-not : (t : ℕ) → Total t ≡ sumOf (2 ^ 64 - 1 - d) (scoreDraws s) → refusalAt s room string d ≡ 0
-    unfolding refusalAt
+    refused-not : (t : ℕ) → Total t ≡ sumOf (2 ^ 64 - 1 - d) (scoreDraws s) → Fine ≡ refusalAt s d
+    unfolding refusalAt firstOf
     refused-not t o =
         let h : d + scoreDraws s ≤ 2 ^ 64 - 1 = omega (arith, total-fits (2 ^ 64 - 1 - d) (scoreDraws s) t o) in
-        rw (none, le-ltb _ _ h)
+        rw (sym none, le-ltb _ _ h)
 
 -- ---- a call on the session a
 module _ (a : Session) (e : Event) where
-  abbrev at : ℕ
-  at = refusalAt (scoreIn e) (length (e .buffer₀)) (length (e .string₀)) (a .draw)
+  abbrev at : Verdict
+  at = refusalAt (scoreIn e) (a .draw)
 
   abbrev full : Result
   full = accepted (scoreDraws (scoreIn e)) (scoreFrames (scoreIn e) (a .rng .0) 0)
 
-  is-refused : (r : Refusal) → numberOf r ≡ at → resultIn a e ≡ refused (numberOf r)
+  comes-to : {v : Verdict} → v ≡ at → resultIn a e ≡ unless v full
   unfolding resultOf
-  is-refused r n = ap (λ (m : ℕ). unless m full) (sym n) ∙ refuses r full
+  comes-to n = ap (λ (v : Verdict). unless v full) (sym n)
 
-  is-accepted : at ≡ 0 → resultIn a e ≡ full
-  unfolding resultOf
-  is-accepted n = ap (λ (m : ℕ). unless m full) n
-
-  refused-by : (r : Refusal) → numberOf r ≡ at → e .answer ≡ record { session = a; outcome = Refused r } → e .out ≡ e .out₀ → e .buffer ≡ e .buffer₀ → e .string ≡ e .string₀ → Scored a e
-  refused-by r n ans o b s =
-      let q = is-refused r n in record {
+  refused-by : {r : Refusal} → Refuse r ≡ at → e .answer ≡ record { session = a; outcome = Refused r } → e .out ≡ e .out₀ → e .buffer ≡ e .buffer₀ → e .string ≡ e .string₀ → Scored a e
+  refused-by n ans o b s =
+      let q = comes-to n in record {
         answer = ap (λ (x : Answer). seen (x .outcome) (e .out)) ans ∙ sym q;
         session = ap (λ (x : Answer). x .session) ans ∙ ap (sessionAfter a) (sym q);
         frames = o ∙ ap (outAfter (e .out₀)) (sym q);
@@ -85,11 +81,11 @@ module _ (a : Session) (e : Event) where
         string = ap (drop (free 9600 (resultIn a e))) s;
       }
 
-  accepted-by : at ≡ 0 → (g : Rng) (t : ℕ) → t ≡ scoreDraws (scoreIn e) → g .0 ≡ stateAfter (a .rng .0) (scoreDraws (scoreIn e))
+  accepted-by : Fine ≡ at → (g : Rng) (t : ℕ) → t ≡ scoreDraws (scoreIn e) → g .0 ≡ stateAfter (a .rng .0) (scoreDraws (scoreIn e))
       → e .answer ≡ record { session = record { rng = g; draw = a .draw + t }; outcome = Played t } → e .out ≡ scoreFrames (scoreIn e) (a .rng .0) 0
       → drop (length (e .out₀)) (e .buffer) ≡ drop (length (e .out₀)) (e .buffer₀) → drop 9600 (e .string) ≡ drop 9600 (e .string₀) → Scored a e
   accepted-by n g t et eg ans o b s =
-      let q = is-accepted n in record {
+      let q = comes-to n in record {
         answer = ap (λ (x : Answer). seen (x .outcome) (e .out)) ans ∙ (λ j. accepted (et j) (o j)) ∙ sym q;
         session = ap (λ (x : Answer). x .session) ans ∙ (λ j. record { rng = record { 0 = eg j }; draw = a .draw + et j }) ∙ ap (sessionAfter a) (sym q);
         frames = o ∙ ap (outAfter (e .out₀)) (sym q);
@@ -101,31 +97,21 @@ module _ (a : Session) (e : Event) where
   abbrev left : ℕ
   left = 2 ^ 64 - 1 - a .draw
 
-  abbrev early : ℕ
-  early = refusal (scoreIn e) (length (e .buffer₀)) (length (e .string₀))
-
   -- a refusal that is not 22
-  pub refused-call : (r : Refusal) → numberOf r ≡ early → e .answer ≡ record { session = a; outcome = Refused r } → e .out ≡ e .out₀ → e .buffer ≡ e .buffer₀ → e .string ≡ e .string₀ → Scored a e
-  refused-call r n = refused-by r (refused-first (scoreIn e) _ _ (a .draw) r n)
+  pub refused-call : {r : Refusal} → Refuse r ≡ refusal (scoreIn e) → e .answer ≡ record { session = a; outcome = Refused r } → e .out ≡ e .out₀ → e .buffer ≡ e .buffer₀
+      → e .string ≡ e .string₀ → Scored a e
+  refused-call n = refused-by (refused-first (scoreIn e) (a .draw) n)
 
-  module _ (none : 0 ≡ early) (fits : a .draw < 2 ^ 64) where
-    pub overdrawn-call : Over ≡ sumOf left (scoreDraws (scoreIn e)) → e .answer ≡ record { session = a; outcome = Refused Draws } → e .out ≡ e .out₀ → e .buffer ≡ e .buffer₀ → e .string ≡ e .string₀
-        → Scored a e
-    overdrawn-call over = refused-by Draws (refused-last (scoreIn e) _ _ (a .draw) (sym none) fits over)
+  module _ (none : Fine ≡ refusal (scoreIn e)) (fits : a .draw < 2 ^ 64) where
+    pub overdrawn-call : Over ≡ sumOf left (scoreDraws (scoreIn e)) → e .answer ≡ record { session = a; outcome = Refused Draws } → e .out ≡ e .out₀ → e .buffer ≡ e .buffer₀
+        → e .string ≡ e .string₀ → Scored a e
+    overdrawn-call over = refused-by (refused-last (scoreIn e) (a .draw) none fits over)
 
     pub accepted-call : (g : Rng) (t : ℕ) → Total t ≡ sumOf left (scoreDraws (scoreIn e)) → g .0 ≡ stateAfter (a .rng .0) (scoreDraws (scoreIn e))
         → e .answer ≡ record { session = record { rng = g; draw = a .draw + t }; outcome = Played t } → e .out ≡ scoreFrames (scoreIn e) (a .rng .0) 0
         → drop (length (e .out₀)) (e .buffer) ≡ drop (length (e .out₀)) (e .buffer₀) → drop 9600 (e .string) ≡ drop 9600 (e .string₀) → Scored a e
-    accepted-call g t is = accepted-by (refused-not (scoreIn e) _ _ (a .draw) (sym none) fits t is) g t (total-exact left (scoreDraws (scoreIn e)) t is)
+    accepted-call g t is = accepted-by (refused-not (scoreIn e) (a .draw) none fits t is) g t (total-exact left (scoreDraws (scoreIn e)) t is)
 
 -- the count after an accepted call fits
 pub draw-fits : (d D t : ℕ) → d < 2 ^ 64 → Total t ≡ sumOf (2 ^ 64 - 1 - d) D → d + t < 2 ^ 64
 draw-fits d D t fits is = omega (arith, total-exact (2 ^ 64 - 1 - d) D t is, total-fits (2 ^ 64 - 1 - d) D t is)
-
--- what the parts of an accepted call ask for
-module _ (s : Score) (room string : ℕ) (none : 0 ≡ refusal s room string) where
-  pub draws-ask : Rate (s .seq .rate) × (Frames (s .n) × Clean s)
-  draws-ask = let acc = accepted-score s room string (sym none) in (acc .rate, (acc .frames, acc .clean))
-
-  pub play-asks : Rate (s .seq .rate) × (Frames (s .n) × (Clean s × ((s .n ≤ room) × (9600 ≤ string))))
-  play-asks = let acc = accepted-score s room string (sym none) in (acc .rate, (acc .frames, (acc .clean, (acc .buffered, acc .stringed))))

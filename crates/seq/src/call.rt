@@ -1,11 +1,12 @@
 // The score call.
-ghost use Rattle.calls.specs.ScoreCall.{Scored};
-use draws::Sum;
+ghost use Rattle.score_contract.specs.ScoreCall.{Scored};
 use outcome::Outcome;
 use outcome::Refusal;
 use outcome::Verdict;
-use playing::play_notes;
+use score::Lent;
 use score::Seq;
+use score_draws::Sum;
+use score_notes::play_notes;
 use session::Answer;
 use session::Session;
 
@@ -34,33 +35,28 @@ pub fn render_seq(
       string = now (string .exit);
     }) ⌝ }
 {
-    let n = out.len();
-    if let Verdict::Refuse(r) = verdict::score_verdict(
-        seq,
-        notes,
-        lane,
-        n,
-        note_buf.len(),
-        string.len(),
-    ) {
+    let lent = Lent {
+        n: out.len(),
+        room: note_buf.len(),
+        string: string.len(),
+    };
+    if let Verdict::Refuse(r) = score_verdict::score_verdict(seq, notes, lane, lent) {
         return Answer {
             session,
             outcome: Outcome::Refused(r),
         };
     }
     let draw = session.draw;
-    let sum = draws::score_draws(seq, notes, lane, n, u64::MAX - draw);
+    let sum = score_draws::score_draws(seq, notes, lane, lent, u64::MAX - draw);
     let Sum::Total(d) = sum else {
         return Answer {
             session,
             outcome: Outcome::Refused(Refusal::Draws),
         };
     };
-    let rng = play_notes(session.rng, seq, notes, lane, out, note_buf, string);
-    let after = Session {
-        rng,
-        draw: draw + d,
-    };
+    let rng = play_notes(session.rng, seq, notes, lane, lent, out, note_buf, string);
+    let count = draw + d;
+    let after = Session { rng, draw: count };
     Answer {
         session: after,
         outcome: Outcome::Played(d),

@@ -2,22 +2,25 @@
 -- draws; that these are the same is `state-add`. Assumes nothing.
 use Prim.Native.Nat.{ℕ, zero, suc, _+_}
 use mathlib.Core.Path.{_≡_, refl, sym, ap, _∙_}
-use mathlib.Core.List.{List, _∷_, map}
+use mathlib.Core.List.{List, [], _∷_, map}
 use native.Mathlib.Omega.{arith}
 use native.Mathlib.Nat.{zero-add, add-zero, le-refl}
 use lib.Ieee.{Float}
 use Rattle.rng.specs.SplitMix64.{stateAfter}
 use Rattle.rng.proofs.States.{state-add}
-use Rattle.outcome.specs.Answer.{Result, refused, accepted, unless}
-use Rattle.score.specs.Score.{Score, noteAt, count, drawsBefore, scoreDraws}
-use Rattle.calls.specs.Frames.{withNote, framesAfter, scoreFrames}
+use Rattle.outcome.specs.Answer.{Result, refused, accepted, unless, reported}
+use Rattle.outcome.specs.declared.answer.Verdict.{Verdict}
+use Rattle.outcome.specs.declared.answer.Verdict.the-variants.{Fine, Refuse}
+use Rattle.outcome.proofs.First.{or-fine}
+use Rattle.score.specs.Score.{Score, noteIn, noteCount, drawsBefore, scoreDraws}
+use Rattle.score_contract.specs.Frames.{withNote, framesAfter, scoreFrames}
 use Rattle.score.specs.Refusals.{refusal, refusalAt}
-use Rattle.calls.specs.ScoreCall.{Event, scoreIn, sessionAfter, resultOf, resultIn}
+use Rattle.score_contract.specs.ScoreCall.{Event, scoreIn, sessionAfter, resultOf, resultIn}
 use Rattle.session.specs.Opened.{sessionAt}
 use Rattle.session.specs.declared.Session.{Session}
-use Rattle.score.proofs.Accepted.{or-zero}
-use Rattle.tally.specs.Tally.{Call, Taken, reported, allTaken, tallied, newDraw, tally, total}
-use Rattle.tally.specs.Claim.{Run, none, call, callIn, seenIn, Agrees}
+use Rattle.score.proofs.Notes.{draws-all}
+use Rattle.tally.specs.Tally.{Taken, allTaken, tallied, newDraw, tally, total, drawnBy}
+use Rattle.tally.specs.Claim.{Run, none, call, seenIn, Agrees}
 use Rattle.tally.proofs.Alone.{alone}
 use Rattle.tally.proofs.Taking.{all-taken}
 
@@ -29,63 +32,72 @@ frames-on sc seed d zero = refl
 frames-on sc seed d (suc k) =
     let x = drawsBefore sc k in
     let on : stateAfter (stateAfter seed d) (0 + x) ≡ stateAfter seed (d + x) = ap (stateAfter (stateAfter seed d)) (zero-add x) ∙ state-add seed d x in
-    λ j. withNote sc (noteAt (sc .notes) k) (on j) (frames-on sc seed d k j)
+    λ j. withNote sc (noteIn sc k) (on j) (frames-on sc seed d k j)
 
-module _ (seed d : ℕ) (c : Call) where
-  abbrev at : ℕ
-  at = refusalAt (c .score) (c .room) (c .string) d
+module _ (seed d : ℕ) (s : Score) where
+  pub not-refused : refusalAt s d ≡ Fine → refusal s ≡ Fine
+  unfolding refusalAt
+  not-refused e = or-fine (refusal s) _ e .0
 
   -- a call that is not refused is taken as a whole
-  taken-whole : at ≡ 0 → allTaken seed (c .string) (c .score) d ≡ record { x = d + scoreDraws (c .score); frames = scoreFrames (c .score) seed d }
-  unfolding refusalAt scoreDraws scoreFrames
+  pub taken-whole : refusalAt s d ≡ Fine → allTaken seed s d ≡ record { x = d + scoreDraws s; frames = scoreFrames s seed d }
+  unfolding scoreFrames
   taken-whole e =
-      let s = c .score in
-      all-taken seed (c .string) s (alone s (c .room) (c .string) (or-zero (refusal s (c .room) (c .string)) _ e .0)) d (count s) (le-refl (count s))
+      all-taken seed s (alone s (not-refused e)) d (noteCount s) (le-refl (noteCount s))
+      ∙ (λ j. record { x = d + sym (draws-all s) j; frames = framesAfter s seed d (noteCount s) })
 
 -- ---- one call
-unless-same : (n : ℕ) (r r′ : Result) → (n ≡ 0 → r ≡ r′) → unless n r ≡ unless n r′
-unless-same zero r r′ e = e refl
-unless-same (suc n) r r′ e = refl
+unless-same : (v : Verdict) (r r′ : Result) → (v ≡ Fine → r ≡ r′) → unless v r ≡ unless v r′
+unless-same Fine r r′ e = e refl
+unless-same (Refuse why) r r′ e = refl
 
-new-draw : (n D : ℕ) (frames : List Float) (d x : ℕ) → (n ≡ 0 → x ≡ d + D) → newDraw (unless n (accepted D frames)) d x ≡ d + reported (unless n (accepted D frames))
-new-draw zero D frames d x e = e refl
-new-draw (suc n) D frames d x e = sym (add-zero d)
+new-draw : (v : Verdict) (D : ℕ) (frames : List Float) (d x : ℕ) → (v ≡ Fine → x ≡ d + D) → newDraw (unless v (accepted D frames)) d x ≡ d + reported (unless v (accepted D frames))
+new-draw Fine D frames d x e = e refl
+new-draw (Refuse why) D frames d x e = sym (add-zero d)
 
 -- what the contract says on the session at draw d is what the tally says
-one-call : (seed d : ℕ) (e : Event) → resultIn (sessionAt seed d) e ≡ tallied seed d (callIn e)
+pub one-call : (seed d : ℕ) (e : Event) → resultIn (sessionAt seed d) e ≡ tallied seed d (scoreIn e)
 unfolding resultOf tallied scoreFrames
 one-call seed d e =
     let s = scoreIn e in
-    unless-same (at seed d (callIn e)) _ _
-    (λ fine. ap (accepted (scoreDraws s)) (frames-on s seed d (count s) ∙ sym (ap (λ (t : Taken). t .frames) (taken-whole seed d (callIn e) fine))))
+    unless-same (refusalAt s d) _ _
+    (λ fine. ap (accepted (scoreDraws s)) (frames-on s seed d (noteCount s) ∙ sym (ap (λ (t : Taken). t .frames) (taken-whole seed d s fine))))
 
 -- "The last x, which is d + D, becomes the new d."
-pub one-draw : (seed d : ℕ) (c : Call) → newDraw (tallied seed d c) d (allTaken seed (c .string) (c .score) d .x) ≡ d + reported (tallied seed d c)
+pub one-draw : (seed d : ℕ) (s : Score) → newDraw (tallied seed d s) d (allTaken seed s d .x) ≡ d + reported (tallied seed d s)
 unfolding tallied
-one-draw seed d c = new-draw (at seed d c) (scoreDraws (c .score)) _ d _ (λ fine. ap (λ (t : Taken). t .x) (taken-whole seed d c fine))
+one-draw seed d s = new-draw (refusalAt s d) (scoreDraws s) _ d _ (λ fine. ap (λ (t : Taken). t .x) (taken-whole seed d s fine))
 
 session-on : (seed d : ℕ) (r : Result) → sessionAfter (sessionAt seed d) r ≡ sessionAt seed (d + reported r)
 session-on seed d (refused number) = ap (sessionAt seed) (sym (add-zero d))
 session-on seed d (accepted draws frames) = λ j. record { rng = record { 0 = state-add seed d draws j }; draw = d + draws }
 
--- ---- a list of calls, from draw d on
-from : (seed d : ℕ) {es : List Event} {a b : Session} → a ≡ sessionAt seed d → Run a es b → Agrees seed d es b
+-- the end is d and what the calls draw
+pub end-is : (seed d : ℕ) (ss : List Score) → tally seed d ss .end ≡ d + drawnBy seed d ss
 unfolding tally total
-from seed d p none = let z : d ≡ d + 0 = sym (add-zero d) in record { results = refl; tallied-end = z; session = p ∙ ap (sessionAt seed) z }
-from seed d p (call {es = es} e scored rest) =
-    let r = tallied seed d (callIn e) in
-    let same : resultIn _ e ≡ r = ap (λ (x : Session). resultIn x e) p ∙ one-call seed d e in
-    let here : seenIn e ≡ r = scored .answer ∙ same in
-    let new = one-draw seed d (callIn e) in
-    let on = scored .session ∙ ap (sessionAfter _) same ∙ ap (λ (x : Session). sessionAfter x r) p ∙ session-on seed d r ∙ ap (sessionAt seed) (sym new) in
-    let later = from seed (newDraw r d (allTaken seed (callIn e .string) (callIn e .score) d .x)) on rest in
-    let sums : newDraw r d (allTaken seed (callIn e .string) (callIn e .score) d .x) + total (map seenIn es) ≡ d + (reported (seenIn e) + total (map seenIn es)) = omega (arith, new, ap reported here) in
-    record {
-      results = λ j. here j ∷ later .results j;
-      tallied-end = later .tallied-end ∙ sums;
-      session = later .session ∙ ap (sessionAt seed) sums;
-    }
+end-is seed d [] = sym (add-zero d)
+end-is seed d (s ∷ ss) = omega (arith, end-is seed (newDraw (tallied seed d s) d (allTaken seed s d .x)) ss, one-draw seed d s)
+
+-- ---- a list of calls, from draw d on
+module _ (seed : ℕ) where
+  pub record Tallied (d : ℕ) (es : List Event) (b : Session) : Type 0 where
+    pub results : map seenIn es ≡ tally seed d (map scoreIn es) .results
+    pub session : b ≡ sessionAt seed (tally seed d (map scoreIn es) .end)
+
+  from : (d : ℕ) {es : List Event} {a b : Session} → a ≡ sessionAt seed d → Run a es b → Tallied d es b
+  unfolding tally
+  from d p none = record { results = refl; session = p }
+  from d p (call e scored rest) =
+      let r = tallied seed d (scoreIn e) in
+      let same : resultIn _ e ≡ r = ap (λ (x : Session). resultIn x e) p ∙ one-call seed d e in
+      let here : seenIn e ≡ r = scored .answer ∙ same in
+      let new = one-draw seed d (scoreIn e) in
+      let on = scored .session ∙ ap (sessionAfter _) same ∙ ap (λ (x : Session). sessionAfter x r) p ∙ session-on seed d r ∙ ap (sessionAt seed) (sym new) in
+      let later = from (newDraw r d (allTaken seed (scoreIn e) d .x)) on rest in
+      record { results = λ j. here j ∷ later .results j; session = later .session }
 
 -- THE THEOREM: a session opened with the seed s at draw c, and any list of score calls on it.
 pub all-calls : (s c : ℕ) (es : List Event) (b : Session) → Run (sessionAt s c) es b → Agrees s c es b
-all-calls s c es b run = from s c refl run
+all-calls s c es b run =
+    let t = from s c refl run in
+    record { results = t .results; session = t .session; end = end-is s c (map scoreIn es); reports = ap total (t .results) }

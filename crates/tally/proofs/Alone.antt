@@ -7,77 +7,93 @@ use native.Mathlib.Omega.{arith}
 use borrow.Author.Tests.{le-ltb, eq-eqb, ne-eqb}
 use lib.ListN.{length, getD}
 use lib.Ieee.{Float, nan}
+use Rattle.laws.specs.Listed.{listed}
 use Rattle.laws.proofs.If.{if-false}
+use Rattle.laws.proofs.Listed.{listed-length, listed-at}
 use Rattle.dsl.specs.Sized.{sizedOf, allSized, pitchSized}
 use Rattle.dsl.specs.Pitch.{pitchAt, reaches}
 use Rattle.dsl.specs.declared.pitch.Pitch.{Pitch}
 use Rattle.dsl.specs.declared.pitch.Pitch.the-variants.{Const, Curve}
 use Rattle.dsl.specs.declared.note.SeqNote.{SeqNote}
-use Rattle.groove.specs.Length.{skipped}
+use Rattle.dsl.proofs.Reach.{reached-within}
 use Rattle.counts.specs.Draws.{drawsOf}
 use Rattle.voice.proofs.Own.{note-same}
 use Rattle.outcome.specs.Answer.{accepted}
-use Rattle.note_refusals.specs.NoteRefusals.{valuesRefusal, noteCallRefusal}
+use Rattle.outcome.specs.declared.answer.Verdict.the-variants.{Fine}
+use Rattle.outcome.proofs.First.{all-false, inside-is}
+use Rattle.note_verdict.specs.NoteRefusals.{noteCallTests, noteCallRefusal}
 use Rattle.note.specs.NoteCall.{noteResultOf}
-use Rattle.score.specs.Score.{Score, place, pitch, drawsIn}
-use Rattle.calls.specs.Frames.{samplesIn}
+use Rattle.score.specs.Score.{Score, rateIn, waveIn, place, skips, pitch, drawsIn}
 use Rattle.score.specs.Refusals.{refusal}
-use Rattle.score.proofs.Accepted.{NoteFine, clean-note, sounded-reached, Accepted, accepted-score}
-use Rattle.tally.specs.Alone.{values, aloneOf, Alone}
+use Rattle.score.proofs.Accepted.{NoteFine, sounded-reached, Fit, accepted-score, fine-in}
 use Rattle.score.proofs.Notes.{some-sounded, all-within}
-use Rattle.tally.proofs.Values.{values-length, value-at, all-values, all-at}
+use Rattle.score_contract.specs.Frames.{samplesIn}
+use Rattle.tally.specs.Alone.{aloneHanded, aloneOf, Alone}
+use Rattle.tally.proofs.Values.{all-listed, all-at}
 
 -- a pitch of an accepted score is sized at each frame within its lane
 pitch-sized : (p : Pitch) (lane : List Float) (len i : ℕ) → pitchSized p ≡ true → allSized lane ≡ true → reaches p (length lane) len → i < len → sizedOf (pitchAt p lane i) ≡ true
 unfolding pitchAt pitchSized
 pitch-sized (Const x) lane len i h all r lt = h
-pitch-sized (Curve offset) lane len i h all r lt = all-at lane _ all (omega arith)
+pitch-sized (Curve offset) lane len i h all r lt = all-at lane _ all (omega (arith, reached-within offset (length lane) len refl r))
 
-module _ (s : Score) (room string : ℕ) (acc : Accepted s room string) (m : SeqNote) (fine : NoteFine (s .seq) (s .n) (length (s .lane)) m) (heard : skipped (s .n) (place s m .start) ≡ false) where
+module _ (s : Score) (fit : Fit s) (m : SeqNote) (fine : NoteFine s m) (heard : skips s m ≡ false) where
   abbrev frames : ℕ
   frames = place s m .sounded
 
   abbrev pitches : List Float
-  pitches = values (pitch s m) frames
+  pitches = listed (pitch s m) frames
 
   abbrev duties : List Float
-  duties = values (λ _. s .seq .duty) frames
+  duties = listed (λ _. s .seq .duty) frames
 
   some : 0 < frames
   some = some-sounded s m heard
 
   each : (i : ℕ) → i < frames → sizedOf (pitch s m i) ≡ true
-  each i h = pitch-sized (m .pitch) (s .lane) frames i (fine .pitch) (acc .lane) (sounded-reached s m fine) h
+  each i h = pitch-sized (m .pitch) (s .lane) frames i (fine .pitch) (fit .lane) (sounded-reached s m fine) h
 
-  values-fine : valuesRefusal (m .gain) pitches duties frames ≡ 0
-  unfolding valuesRefusal
-  values-fine =
-      let ps = values-length (pitch s m) frames in
-      let ds = values-length (λ _. s .seq .duty) frames in
-      let full : length pitches ≡ 0 → ⊥ = λ e. omega (arith, e, ps, some) in
-      sym (if-false _ (ap not (fine .gain)) (if-false _ (ap not (all-values (pitch s m) frames each)) (if-false _ (ap not (all-values (λ _. s .seq .duty) frames (λ i h. acc .duty)))
-      (if-false _ (ne-eqb _ _ full) (if-false _ (ap not (eq-eqb _ _ (ds ∙ sym ps))) (if-false _ (ap not (eq-eqb _ _ (sym ps))) refl))))))
-
-  call-fine : noteCallRefusal (s .seq .rate) (s .seq .voice) (m .gain) pitches duties frames string ≡ 0
+  pub call-fine : noteCallRefusal (aloneHanded s m) ≡ Fine
   unfolding noteCallRefusal
   call-fine =
-      let few : frames ≤ 16777216 = omega (arith, all-within s m heard, acc .frames .most) in
-      sym (if-false _ (le-ltb _ _ (acc .rate .least)) (if-false _ (le-ltb _ _ (acc .rate .most)) (if-false _ (le-ltb 16777216 frames few) (if-false _ (ap not (acc .knobs))
-      (if-false _ (le-ltb string 9600 (acc .stringed)) (sym values-fine))))))
+      let ps = listed-length (pitch s m) frames in
+      let ds = listed-length (λ _. s .seq .duty) frames in
+      let full : length pitches ≡ 0 → ⊥ = λ e. omega (arith, e, ps, some) in
+      let few : frames ≤ 16777216 = omega (arith, all-within s m heard, fit .frames .most) in
+      all-false (noteCallTests (aloneHanded s m)) (
+        inside-is _ _ _ (fit .rate .least) (fit .rate .most),
+        (
+          le-ltb 16777216 frames few,
+          (
+            ap not (fit .knobs),
+            (
+              le-ltb (s .string) 9600 (fit .stringed),
+              (
+                ap not (fine .gain),
+                (
+                  ap not (all-listed (pitch s m) frames each),
+                  (
+                    ap not (all-listed (λ _. s .seq .duty) frames (λ i h. fit .duty)),
+                    (ne-eqb _ _ full, (ap not (eq-eqb _ _ (ds ∙ sym ps)), (ap not (eq-eqb _ _ (sym ps)), tt))),
+                  ),
+                ),
+              ),
+            ),
+          ),
+        ),
+      )
 
-  drawn : drawsOf (s .seq .voice .wave) (s .seq .rate) (getD pitches 0 nan) frames ≡ drawsIn s m
+  drawn : drawsOf (waveIn s) (rateIn s) (getD pitches 0 nan) frames ≡ drawsIn s m
   unfolding drawsIn
-  drawn = ap (λ (x : Float). drawsOf (s .seq .voice .wave) (s .seq .rate) x frames) (value-at (pitch s m) frames 0 some) ∙ if-false _ heard refl
+  drawn = ap (λ (x : Float). drawsOf (waveIn s) (rateIn s) x frames) (listed-at (pitch s m) frames 0 nan some) ∙ if-false _ heard refl
 
-  alone-note : (g : ℕ) → aloneOf s m string g ≡ accepted (drawsIn s m) (samplesIn s m g)
+  alone-note : (g : ℕ) → aloneOf s m g ≡ accepted (drawsIn s m) (samplesIn s m g)
   unfolding aloneOf noteResultOf samplesIn
   alone-note g =
-      let same = note-same (s .seq .rate) (s .seq .voice) (m .gain) (λ i. getD pitches i nan) (pitch s m) (λ i. getD duties i nan) (λ _. s .seq .duty) g frames
-      (value-at (pitch s m) frames) (value-at (λ _. s .seq .duty) frames) in
+      let same = note-same (rateIn s) (s .seq .voice) (m .gain) (λ i. getD pitches i nan) (pitch s m) (λ i. getD duties i nan) (λ _. s .seq .duty) g frames
+      (λ i h. listed-at (pitch s m) frames i nan h) (λ i h. listed-at (λ _. s .seq .duty) frames i nan h) in
       rw call-fine (λ j. accepted (drawn j) (same j))
 
 -- THE THEOREM: each sounded note of an accepted score has the draws and the samples that the note call gives it alone
-pub alone : (s : Score) (room string : ℕ) → refusal s room string ≡ 0 → Alone s string
-alone s room string none k m g lt is heard =
-    let acc = accepted-score s room string none in
-    alone-note s room string acc m (clean-note s (acc .clean) k lt m is) heard g
+pub alone : (s : Score) → refusal s ≡ Fine → Alone s
+alone s ok k m g lt is heard = alone-note s (accepted-score s ok .fit) m (fine-in s ok k lt m is) heard g

@@ -2,5 +2,6 @@ mod Values
 pub mod Alone
 mod Taking
 pub mod AllCalls
-pub mod Setting
 pub mod Sum
+pub mod Lists
+pub mod Setting

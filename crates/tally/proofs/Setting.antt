@@ -1,33 +1,48 @@
--- No knob moves the noise. The draws of a score depend on its wave, its rate, and of each note on its sounded frames and its first pitch; so scores that differ in knobs, duty,
--- envelope and gains have the same draws, and lists of such calls the same T. Assumes nothing.
-use Prim.Native.Nat.{ℕ, zero, suc, _+_, _*_, _/_, _≤_, _<_}
+-- No knob moves the noise. The draws of a score depend on its wave, its rate, and of each note on its sounded frames and its first pitch; so lists of calls that differ in
+-- knobs, duty, envelopes and gains are refused alike, draw alike and end alike. Assumes nothing.
+use Prim.Native.Nat.{ℕ, zero, suc, _+_, _-_, _*_, _/_, _%_, _^_, _≤_, _<_}
 use mathlib.Core.Path.{_≡_, refl, sym, ap, _∙_}
-use mathlib.Core.List.{List, [], _∷_}
-use mathlib.Core.Bool.{Bool, true, false, cond}
+use mathlib.Core.List.{List, [], _∷_, _++_, map}
+use mathlib.Core.Bool.{Bool, true, false, cond, not}
 use native.Mathlib.Omega.{arith}
 use native.Mathlib.Nat.{add-zero, le-refl}
-use lib.ListN.{getD}
-use lib.Dec.{eqb}
+use lib.ListN.{length, getD}
+use lib.Dec.{ltb, eqb}
 use lib.Ieee.{Float, binary32, ofBits, lt}
 use Rattle.ieee.specs.Numbers.{c0}
-use Rattle.dsl.specs.Note.{noteWith, noteOf}
-use Rattle.dsl.specs.Pitch.{pitchAt}
+use Rattle.laws.specs.Listed.{listed}
+use Rattle.laws.proofs.Listed.{from-map, listed-same}
+use Rattle.rng.specs.SplitMix64.{stateAfter}
+use Rattle.dsl.specs.Note.{noteWith, noteOf, ofNote}
+use Rattle.dsl.specs.Pitch.{pitchAt, passes}
+use Rattle.dsl.specs.Sized.{allSized, pitchSized}
 use Rattle.dsl.specs.declared.pitch.Pitch.{Pitch}
 use Rattle.dsl.specs.declared.pitch.Pitch.the-variants.{Const, Curve}
 use Rattle.dsl.specs.declared.wave.SeqWave.{SeqWave}
 use Rattle.dsl.specs.declared.note.SeqNote.{SeqNote}
 use Rattle.dsl.specs.declared.note.Decoded.{Decoded}
-use Rattle.dsl.specs.declared.note.Decoded.the-variants.{Note, Kind}
+use Rattle.dsl.specs.declared.note.Decoded.the-variants.{Note, NoKind}
+use Rattle.dsl.proofs.Cases.{NoNote, by-kind}
 use Rattle.groove.specs.Humanize.{seedOf, humanizeDraws}
-use Rattle.groove.specs.Timing.{stepDur, humanOf, grooveOf}
-use Rattle.groove.specs.Length.{lengthOf, skipped, soundedOf}
+use Rattle.groove.specs.Timing.{humanDelay, grooveOf}
+use Rattle.groove.specs.Length.{lengthOf, soundedOf}
 use Rattle.counts.specs.Draws.{drawsOf}
-use Rattle.score.specs.Score.{Score, noteAt, count, durOf, placeOf, place, pitch, drawsIn, noteDraws, drawsBefore, scoreDraws}
-use Rattle.score.specs.Refusals.{refusalAt}
-use Rattle.tally.specs.Tally.{Call, allTaken, tallied, newDraw, tally, total}
-use Rattle.tally.specs.Setting.{soundedIn, firstIn, Alike, Reset, Together, none, refused, accepted}
-use Rattle.score.proofs.Notes.{none-sounded, some-sounded}
-use Rattle.tally.proofs.AllCalls.{one-draw}
+use Rattle.outcome.specs.Answer.{accepted, unless, reported}
+use Rattle.outcome.specs.First.{Test, _⇒_, firstOf, orElse, firstRefusal}
+use Rattle.outcome.specs.declared.answer.Refusal.the-variants.{Kind, Steps, Size, Reach, Words, Lane, NoteBuffer, StringBuffer, Draws}
+use Rattle.outcome.specs.declared.answer.Verdict.{Verdict}
+use Rattle.outcome.specs.declared.answer.Verdict.the-variants.{Fine, Refuse}
+use Rattle.outcome.proofs.First.{first-append}
+use Rattle.session.specs.Opened.{sessionAt}
+use Rattle.session.specs.declared.Session.{Session}
+use Rattle.score.specs.Score.{Score, rateIn, waveIn, noteAt, noteIn, noteCount, notesIn, durOf, placeOf, place, skips, pitch, drawsIn, noteDraws, drawsBefore, scoreDraws}
+use Rattle.score.specs.Refusals.{numberTests, voiceTests, lentTests, listTests, callTests, noteTests, noteRefusal, refusal, refusalAt}
+use Rattle.score.proofs.Notes.{none-sounded, some-sounded, draws-all}
+use Rattle.score_contract.specs.ScoreCall.{Event, scoreIn}
+use Rattle.tally.specs.Tally.{allTaken, tallied, newDraw, tally}
+use Rattle.tally.specs.Claim.{Run}
+use Rattle.tally.specs.Setting.{soundedIn, firstIn, gainSized, Alike, Reset, Resets, no-calls, more-calls, SameNoise, Unmoved, no-more, both-refused, both-accepted, silent, NoiseKept}
+use Rattle.tally.proofs.AllCalls.{one-draw, all-calls}
 
 -- ---- the draws of a note, by its sounded frames and its first pitch
 drawsBy : SeqWave → ℕ → ℕ → Float → ℕ
@@ -46,33 +61,35 @@ drawn-same wave rate zero first first′ h = refl
 drawn-same wave rate (suc frames) first first′ h = ap (λ (x : Float). drawsOf wave rate x (suc frames)) (h (omega arith))
 
 module _ (s : Score) where
-  by-start : (m : SeqNote) (b : Bool) → skipped (s .n) (place s m .start) ≡ b → drawsIn s m ≡ drawsBy (s .seq .voice .wave) (s .seq .rate) (place s m .sounded) (pitch s m 0)
+  by-start : (m : SeqNote) (b : Bool) → skips s m ≡ b → drawsIn s m ≡ drawsBy (waveIn s) (rateIn s) (place s m .sounded) (pitch s m 0)
   unfolding drawsIn drawsBy
   by-start m true e = rw (e, none-sounded s m e)
   by-start m false e = rw e (drawn-some _ _ _ _ (some-sounded s m e))
 
-  note-draws : (e : Decoded) → noteDraws s e ≡ drawsBy (s .seq .voice .wave) (s .seq .rate) (soundedIn s e) (firstIn s e)
+  none-draws : (e : Decoded) → NoNote e → noteDraws s e ≡ drawsBy (waveIn s) (rateIn s) (soundedIn s e) (firstIn s e)
   unfolding noteDraws drawsBy
-  note-draws (Note m) = by-start m (skipped (s .n) (place s m .start)) refl
-  note-draws Kind = refl
+  none-draws e none = none .other 0 (drawsIn s) ∙ ap (λ (frames : ℕ). drawsBy (waveIn s) (rateIn s) frames (firstIn s e)) (sym (none .other 0 (λ m. place s m .sounded)))
+
+  note-draws : (e : Decoded) → noteDraws s e ≡ drawsBy (waveIn s) (rateIn s) (soundedIn s e) (firstIn s e)
+  unfolding noteDraws
+  note-draws = by-kind (λ e. noteDraws s e ≡ drawsBy (waveIn s) (rateIn s) (soundedIn s e) (firstIn s e)) (λ m. by-start m (skips s m) refl) none-draws
 
 -- ---- alike scores
 module _ (s s′ : Score) (alike : Alike s s′) where
-  one-same : (k : ℕ) → k < count s → noteDraws s (noteAt (s .notes) k) ≡ noteDraws s′ (noteAt (s′ .notes) k)
+  pub one-same : (k : ℕ) → k < noteCount s → noteDraws s (noteIn s k) ≡ noteDraws s′ (noteIn s′ k)
   one-same k h =
-      let e = noteAt (s .notes) k in
-      let e′ = noteAt (s′ .notes) k in
+      let e = noteIn s k in
+      let e′ = noteIn s′ k in
       note-draws s e ∙ drawn-same _ _ _ _ _ (alike .first k h) ∙ (λ j. drawsBy (alike .wave j) (alike .rate j) (alike .sounded k h j) (firstIn s′ e′)) ∙ sym (note-draws s′ e′)
 
-  before-same : (k : ℕ) → k ≤ count s → drawsBefore s k ≡ drawsBefore s′ k
+  pub before-same : (k : ℕ) → k ≤ noteCount s → drawsBefore s k ≡ drawsBefore s′ k
   unfolding drawsBefore
   before-same zero h = refl
   before-same (suc k) h = λ j. before-same k (omega arith) j + one-same k (omega arith) j
 
 -- THE THEOREM: alike scores have the same draws
 pub same-draws : (s s′ : Score) → Alike s s′ → scoreDraws s ≡ scoreDraws s′
-unfolding scoreDraws
-same-draws s s′ alike = before-same s s′ alike (count s) (le-refl (count s)) ∙ ap (drawsBefore s′) (alike .notes)
+same-draws s s′ alike = draws-all s ∙ before-same s s′ alike (noteCount s) (le-refl (noteCount s)) ∙ ap (drawsBefore s′) (alike .notes) ∙ sym (draws-all s′)
 
 -- ---- scores that differ in knobs, duty, envelope and gains
 abbrev note : ℕ → ℕ → Pitch → Float → SeqNote
@@ -81,7 +98,7 @@ note step len p gain = record { step = step; len = len; pitch = p; gain = gain }
 -- a note's gain does not move its start
 start-by : (step len : ℕ) (p : Pitch) (gain gain′ swing humanize dur : Float) (b : Bool) → lt c0 humanize ≡ b
     → grooveOf (note step len p gain) swing humanize dur .start ≡ grooveOf (note step len p gain′) swing humanize dur .start
-unfolding grooveOf humanOf humanizeDraws seedOf
+unfolding grooveOf humanDelay humanizeDraws seedOf
 start-by step len p gain gain′ swing humanize dur true e = rw e
 start-by step len p gain gain′ swing humanize dur false e = rw e
 
@@ -94,19 +111,41 @@ word-free : {A : Type 0} (read : Decoded → A) → Free read → (step len kind
 unfolding noteOf
 word-free {A} read free step len kind p g g′ = by (eqb kind 0) (eqb kind 1)
   where
-    by : (a b : Bool) → read (cond a (noteWith step len (Const (ofBits binary32 p)) g) (cond b (noteWith step len (Curve p) g) Kind))
-        ≡ read (cond a (noteWith step len (Const (ofBits binary32 p)) g′) (cond b (noteWith step len (Curve p) g′) Kind))
+    by : (a b : Bool) → read (cond a (noteWith step len (Const (ofBits binary32 p)) g) (cond b (noteWith step len (Curve p) g) NoKind))
+        ≡ read (cond a (noteWith step len (Const (ofBits binary32 p)) g′) (cond b (noteWith step len (Curve p) g′) NoKind))
     by true b = free step len (Const (ofBits binary32 p)) _ _
     by false true = free step len (Curve p) _ _
     by false false = refl
 
 sounded-free : (s : Score) → Free (soundedIn s)
 unfolding placeOf
-sounded-free s step len p gain gain′ = ap (λ (start : ℕ). soundedOf (s .n) start (lengthOf len (durOf (s .seq)) (s .n))) (start-by step len p gain gain′ _ _ _ _ refl)
+sounded-free s step len p gain gain′ = ap (λ (start : ℕ). soundedOf (s .n) start (lengthOf len (durOf (s .seq .timing)) (s .n))) (start-by step len p gain gain′ _ _ _ _ refl)
+
+-- ---- a note's refusal, but for its gain
+abbrev bareTests : Score → SeqNote → List Test
+bareTests s m =
+    (ltb 1048575 (m .step) ⇒ Steps)
+    ∷ (ltb 1048575 (m .len) ⇒ Steps)
+    ∷ (not (pitchSized (m .pitch)) ⇒ Size)
+    ∷ (passes (m .pitch) (length (s .lane)) (place s m .len) ⇒ Reach)
+    ∷ []
+
+bareRefusal : Score → Decoded → Verdict
+bareRefusal s = ofNote (Refuse Kind) (λ m. firstOf (bareTests s m))
+
+-- where the gain is sized it does not refuse
+gain-passes : (s : Score) (e : Decoded) → gainSized e ≡ true → noteRefusal s e ≡ bareRefusal s e
+unfolding noteRefusal bareRefusal firstOf
+gain-passes s = by-kind (λ e. gainSized e ≡ true → noteRefusal s e ≡ bareRefusal s e) (λ m sized. rw sized)
+    (λ e none sized. none .other (Refuse Kind) (λ m. firstOf (noteTests s m)) ∙ sym (none .other (Refuse Kind) (λ m. firstOf (bareTests s m))))
+
+bare-free : (s : Score) → Free (bareRefusal s)
+unfolding bareRefusal placeOf
+bare-free s step len p gain gain′ = refl
 
 module _ (s s′ : Score) (r : Reset s s′) where
   -- note k of s is that of s′ but for its gain
-  note-reset : (k : ℕ) → k < count s → noteAt (s .notes) k
+  note-reset : (k : ℕ) → k < noteCount s → noteIn s k
       ≡ noteOf (getD (s′ .notes) (k * 5) 0) (getD (s′ .notes) (k * 5 + 1) 0) (getD (s′ .notes) (k * 5 + 2) 0) (getD (s′ .notes) (k * 5 + 3) 0) (getD (s .notes) (k * 5 + 4) 0)
   unfolding noteAt
   note-reset k h =
@@ -115,61 +154,135 @@ module _ (s s′ : Score) (r : Reset s s′) where
       λ j. noteOf (step j) (r .notes k 1 h (omega arith) j) (r .notes k 2 h (omega arith) j) (r .notes k 3 h (omega arith) j) (getD (s .notes) (k * 5 + 4) 0)
 
   -- so a reading that the two scores share is the same of both
-  reset-read : {A : Type 0} (read read′ : Decoded → A) → Free read → ((e : Decoded) → read e ≡ read′ e) → (k : ℕ) → k < count s → read (noteAt (s .notes) k) ≡ read′ (noteAt (s′ .notes) k)
+  reset-read : {A : Type 0} (read read′ : Decoded → A) → Free read → ((e : Decoded) → read e ≡ read′ e) → (k : ℕ) → k < noteCount s → read (noteIn s k) ≡ read′ (noteIn s′ k)
   unfolding noteAt
-  reset-read read read′ free same k h = ap read (note-reset k h) ∙ word-free read free _ _ _ _ _ _ ∙ same (noteAt (s′ .notes) k)
+  reset-read read read′ free same k h = ap read (note-reset k h) ∙ word-free read free _ _ _ _ _ _ ∙ same (noteIn s′ k)
 
   sounded-same : (e : Decoded) → soundedIn s e ≡ soundedIn s′ e
-  unfolding placeOf
-  sounded-same (Note m) =
-      let dur : durOf (s .seq) ≡ durOf (s′ .seq) = λ j. stepDur (r .rate j) (r .tempo j) (r .steps j) in
-      λ j. soundedOf (r .frames j) (grooveOf m (r .swing j) (r .humanize j) (dur j) .start) (lengthOf (m .len) (dur j) (r .frames j))
-  sounded-same Kind = refl
+  sounded-same = by-kind (λ e. soundedIn s e ≡ soundedIn s′ e) (λ m j. placeOf (r .timing j) (r .frames j) m .sounded)
+      (λ e none. none .other 0 (λ m. place s m .sounded) ∙ sym (none .other 0 (λ m. place s′ m .sounded)))
 
   first-same : (e : Decoded) → firstIn s e ≡ firstIn s′ e
-  first-same (Note m) = ap (λ (lane : List Float). pitchAt (m .pitch) lane 0) (r .lane)
-  first-same Kind = refl
+  first-same = by-kind (λ e. firstIn s e ≡ firstIn s′ e) (λ m j. pitchAt (m .pitch) (r .lane j) 0)
+      (λ e none. none .other _ (λ m. pitch s m 0) ∙ sym (none .other _ (λ m. pitch s′ m 0)))
 
--- THE THEOREM: scores that differ in nothing but knobs, duty, envelope and gains are alike
-pub reset-alike : (s s′ : Score) → Reset s s′ → Alike s s′
-reset-alike s s′ r = record {
-  wave = r .wave;
-  rate = r .rate;
-  notes = ap (λ (n : ℕ). n / 5) (r .words);
-  sounded = reset-read s s′ r (soundedIn s) (soundedIn s′) (sounded-free s) (sounded-same s s′ r);
-  first = λ k h some. reset-read s s′ r (firstIn s) (firstIn s′) (λ step len p gain gain′. refl) (first-same s s′ r) k h;
-}
+  bare-same : (e : Decoded) → bareRefusal s e ≡ bareRefusal s′ e
+  unfolding bareRefusal
+  bare-same = by-kind (λ e. bareRefusal s e ≡ bareRefusal s′ e)
+      (λ m j. firstOf ((ltb 1048575 (m .step) ⇒ Steps) ∷ (ltb 1048575 (m .len) ⇒ Steps) ∷ (not (pitchSized (m .pitch)) ⇒ Size)
+      ∷ (passes (m .pitch) (length (r .lane j)) (placeOf (r .timing j) (r .frames j) m .len) ⇒ Reach) ∷ []))
+      (λ e none. none .other (Refuse Kind) (λ m. firstOf (bareTests s m)) ∙ sym (none .other (Refuse Kind) (λ m. firstOf (bareTests s′ m))))
+
+  count-same : noteCount s ≡ noteCount s′
+  count-same = ap (λ (n : ℕ). n / 5) (r .words)
+
+  -- THE THEOREM: scores that differ in nothing but knobs, duty, envelope and gains are alike
+  pub reset-alike : Alike s s′
+  reset-alike = record {
+    wave = r .wave;
+    rate = λ j. r .timing j .rate;
+    notes = count-same;
+    sounded = reset-read (soundedIn s) (soundedIn s′) (sounded-free s) sounded-same;
+    first = λ k h some. reset-read (firstIn s) (firstIn s′) (λ step len p gain gain′. refl) first-same k h;
+  }
+
+  -- ---- they are refused alike
+  note-verdict : (k : ℕ) → k < noteCount s → noteRefusal s (noteIn s k) ≡ noteRefusal s′ (noteIn s′ k)
+  note-verdict k h =
+      let h′ : k < noteCount s′ = omega (arith, count-same) in
+      gain-passes s _ (r .sized .gains k h) ∙ reset-read (bareRefusal s) (bareRefusal s′) (bare-free s) bare-same k h ∙ sym (gain-passes s′ _ (r .sized′ .gains k h′))
+
+  notes-verdict : firstRefusal (map (noteRefusal s) (notesIn s)) ≡ firstRefusal (map (noteRefusal s′) (notesIn s′))
+  notes-verdict =
+      ap firstRefusal (from-map (noteRefusal s) (noteIn s) (noteCount s) 0 ∙ listed-same (λ k. noteRefusal s (noteIn s k)) (λ k. noteRefusal s′ (noteIn s′ k)) (noteCount s) note-verdict
+      ∙ ap (λ (n : ℕ). listed (λ k. noteRefusal s′ (noteIn s′ k)) n) count-same ∙ sym (from-map (noteRefusal s′) (noteIn s′) (noteCount s′) 0))
+
+-- the tests of a call, part by part
+parts : (s : Score) → firstOf (callTests s) ≡ orElse (firstOf (numberTests (s .seq .timing) (s .n))) (orElse (firstOf (voiceTests (s .seq))) (firstOf (lentTests s ++ listTests s)))
+parts s =
+    first-append (numberTests (s .seq .timing) (s .n)) (voiceTests (s .seq) ++ (lentTests s ++ listTests s))
+    ∙ ap (orElse (firstOf (numberTests (s .seq .timing) (s .n)))) (first-append (voiceTests (s .seq)) (lentTests s ++ listTests s))
+
+module _ (s s′ : Score) (r : Reset s s′) where
+  call-verdict : firstOf (callTests s) ≡ firstOf (callTests s′)
+  call-verdict =
+      let voices = r .sized .voice ∙ sym (r .sized′ .voice) in
+      let middle : orElse (firstOf (numberTests (s .seq .timing) (s .n))) (orElse (firstOf (voiceTests (s .seq))) (firstOf (lentTests s ++ listTests s)))
+      ≡ orElse (firstOf (numberTests (s′ .seq .timing) (s′ .n))) (orElse (firstOf (voiceTests (s′ .seq))) (firstOf (lentTests s′ ++ listTests s′)))
+      = λ j. orElse (firstOf (numberTests (r .timing j) (r .frames j))) (orElse (voices j)
+      (firstOf ((ltb (r .room j) (r .frames j) ⇒ NoteBuffer) ∷ (ltb (r .string j) 9600 ⇒ StringBuffer) ∷ (not (eqb (r .words j % 5) 0) ⇒ Words) ∷ (not (allSized (r .lane j)) ⇒ Lane) ∷ []))) in
+      parts s ∙ middle ∙ sym (parts s′)
+
+  -- THE THEOREM: the same refusal, or none in both
+  pub same-refusal : (d : ℕ) → refusalAt s d ≡ refusalAt s′ d
+  unfolding refusalAt refusal
+  same-refusal d =
+      let drawn = same-draws s s′ (reset-alike s s′ r) in
+      λ j. orElse (orElse (call-verdict j) (notes-verdict s s′ r j)) (firstOf ((ltb (2 ^ 64 - 1) (d + drawn j) ⇒ Draws) ∷ []))
+
+  noise : (seed d k : ℕ) → k < noteCount s → SameNoise seed d s s′ k
+  noise seed d k h =
+      let alike = reset-alike s s′ r in
+      let starts = ap (λ (x : ℕ). d + x) (before-same s s′ alike k (omega arith)) in
+      record { sounded = alike .sounded k h; starts = starts; state = ap (stateAfter seed) starts; draws = one-same s s′ alike k h }
 
 -- ---- lists of calls
-module _ (seed d : ℕ) (c : Call) where
-  -- the draw from which the next call is tallied
-  abbrev then : ℕ
-  then = newDraw (tallied seed d c) d (allTaken seed (c .string) (c .score) d .x)
+silent-same : (v : Verdict) (D D′ : ℕ) (fs fs′ : List Float) → D ≡ D′ → silent (unless v (accepted D fs)) ≡ silent (unless v (accepted D′ fs′))
+silent-same Fine D D′ fs fs′ e = ap (λ (x : ℕ). accepted x []) e
+silent-same (Refuse why) D D′ fs fs′ e = refl
 
-  then-refused : {n : ℕ} → refusalAt (c .score) (c .room) (c .string) d ≡ suc n → then ≡ d
-  unfolding tallied
-  then-refused e = rw e
+reports-same : (v : Verdict) (D D′ : ℕ) (fs fs′ : List Float) → D ≡ D′ → reported (unless v (accepted D fs)) ≡ reported (unless v (accepted D′ fs′))
+reports-same Fine D D′ fs fs′ e = e
+reports-same (Refuse why) D D′ fs fs′ e = refl
 
-  then-accepted : refusalAt (c .score) (c .room) (c .string) d ≡ 0 → then ≡ d + scoreDraws (c .score)
-  unfolding tallied
-  then-accepted e = one-draw seed d c ∙ rw e
+-- where the next call begins
+next-draw : (seed d : ℕ) (s : Score) (v : Verdict) → refusalAt s d ≡ v → newDraw (tallied seed d s) d (allTaken seed s d .x) ≡ d + reported (unless v (accepted (scoreDraws s) []))
+unfolding tallied
+next-draw seed d s v e = one-draw seed d s ∙ ap (λ (x : ℕ). d + x) (rw e (reports-same v (scoreDraws s) (scoreDraws s) _ [] refl))
 
--- THE THEOREM: the same end
-pub same-total : (seed d : ℕ) (cs cs′ : List Call) → Together d cs cs′ → tally seed d cs .end ≡ tally seed d cs′ .end
-unfolding tally
-same-total seed d [] [] none = refl
-same-total seed d (c ∷ cs) (c′ ∷ cs′) (refused _ _ e e′ rest) =
-    ap (λ (x : ℕ). tally seed x cs .end) (then-refused seed d c e) ∙ same-total seed d cs cs′ rest ∙ ap (λ (x : ℕ). tally seed x cs′ .end) (sym (then-refused seed d c′ e′))
-same-total seed d (c ∷ cs) (c′ ∷ cs′) (accepted _ _ e e′ alike rest) =
-    ap (λ (x : ℕ). tally seed x cs .end) (then-accepted seed d c e) ∙ same-total seed (d + scoreDraws (c .score)) cs cs′ rest
-    ∙ ap (λ (x : ℕ). tally seed x cs′ .end) (ap (λ (x : ℕ). d + x) (same-draws (c .score) (c′ .score) alike) ∙ sym (then-accepted seed d c′ e′))
+record Both (seed d : ℕ) (ss ss′ : List Score) : Type 0 where
+  pub calls : Unmoved seed d ss ss′
+  pub answers : map silent (tally seed d ss .results) ≡ map silent (tally seed d ss′ .results)
+  pub ends : tally seed d ss .end ≡ tally seed d ss′ .end
 
--- the end is d and what the calls report
-pub end-is : (seed d : ℕ) (cs : List Call) → tally seed d cs .end ≡ d + total (tally seed d cs .results)
-unfolding tally total
-end-is seed d [] = sym (add-zero d)
-end-is seed d (c ∷ cs) = omega (arith, end-is seed (then seed d c) cs, one-draw seed d c)
+module _ (seed : ℕ) where
+  unmoved-by : (d : ℕ) (s s′ : Score) → Reset s s′ → {ss ss′ : List Score} (v : Verdict) → refusalAt s d ≡ v → Unmoved seed (d + reported (unless v (accepted (scoreDraws s) []))) ss ss′
+      → Unmoved seed d (s ∷ ss) (s′ ∷ ss′)
+  unmoved-by d s s′ r Fine e rest = both-accepted s s′ e (sym (same-refusal s s′ r d) ∙ e) (reset-alike s s′ r .notes) (noise s s′ r seed d) rest
+  unmoved-by d s s′ r {ss} {ss′} (Refuse why) e rest =
+      let stays : Unmoved seed d ss ss′ = rw (add-zero d) at rest in
+      both-refused s s′ why e (sym (same-refusal s s′ r d) ∙ e) stays
 
--- THE THEOREM: the same T
-pub same-reported : (seed d : ℕ) (cs cs′ : List Call) → Together d cs cs′ → total (tally seed d cs .results) ≡ total (tally seed d cs′ .results)
-same-reported seed d cs cs′ t = omega (arith, end-is seed d cs, end-is seed d cs′, same-total seed d cs cs′ t)
+  both : (d : ℕ) (ss ss′ : List Score) → Resets ss ss′ → Both seed d ss ss′
+  unfolding tally tallied
+  both d [] [] no-calls = record { calls = no-more; answers = refl; ends = refl }
+  both d (s ∷ ss) (s′ ∷ ss′) (more-calls _ _ r rest) =
+      let v = refusalAt s d in
+      let same = same-refusal s s′ r d in
+      let drawn = same-draws s s′ (reset-alike s s′ r) in
+      let n = d + reported (unless v (accepted (scoreDraws s) [])) in
+      let here = next-draw seed d s v refl in
+      let there = next-draw seed d s′ v (sym same) ∙ ap (λ (x : ℕ). d + x) (reports-same v (scoreDraws s′) (scoreDraws s) [] [] (sym drawn)) in
+      let later = both n ss ss′ rest in
+      let head = silent-same v (scoreDraws s) (scoreDraws s′) (allTaken seed s d .frames) (allTaken seed s′ d .frames) drawn
+      ∙ ap (λ (w : Verdict). silent (unless w (accepted (scoreDraws s′) (allTaken seed s′ d .frames)))) same in
+      let tails = ap (λ (x : ℕ). map silent (tally seed x ss .results)) here ∙ later .answers ∙ ap (λ (x : ℕ). map silent (tally seed x ss′ .results)) (sym there) in
+      record {
+        calls = unmoved-by d s s′ r v refl (later .calls);
+        answers = λ j. head j ∷ tails j;
+        ends = ap (λ (x : ℕ). tally seed x ss .end) here ∙ later .ends ∙ ap (λ (x : ℕ). tally seed x ss′ .end) (sym there);
+      }
+
+-- THE THEOREM, which a paper cites: of two lists of score calls, on sessions opened with one seed at one draw, that differ in nothing but knobs, duty, gains and envelopes, all
+-- sized, each call is refused with the same number or accepted in both; each note starts from the same draw and state, and draws the same; and both sessions end alike.
+pub no-knob-moves-noise : (s c : ℕ) (es es′ : List Event) (b b′ : Session) → Run (sessionAt s c) es b → Run (sessionAt s c) es′ b′ → Resets (map scoreIn es) (map scoreIn es′)
+    → NoiseKept s c es es′ b b′
+no-knob-moves-noise s c es es′ b b′ run run′ resets =
+    let t = both s c (map scoreIn es) (map scoreIn es′) resets in
+    let a = all-calls s c es b run in
+    let a′ = all-calls s c es′ b′ run′ in
+    record {
+      calls = t .calls;
+      answers = ap (map silent) (a .results) ∙ t .answers ∙ ap (map silent) (sym (a′ .results));
+      ends = a .session ∙ ap (sessionAt s) (t .ends) ∙ sym (a′ .session);
+    }

@@ -1,10 +1,10 @@
--- "each frame is the sum in list order": a frame of a score is what the notes, one after another, add to plus zero there. This holds of every score, accepted or not.
--- Assumes nothing.
+-- "each frame is the sum in list order": a frame of an accepted score is what its notes, one after another, add to plus zero there. Assumes nothing.
 use Prim.Native.Nat.{ℕ, zero, suc, _+_, _-_, _≤_, _<_}
-use mathlib.Core.Path.{_≡_, refl, ap, _∙_}
+use mathlib.Core.Path.{_≡_, refl, sym, ap, _∙_}
 use mathlib.Core.List.{List}
 use mathlib.Core.Bool.{Bool, true, false, cond}
 use native.Mathlib.Omega.{arith}
+use native.Mathlib.Nat.{le-refl}
 use borrow.Author.Tests.{leb-true, leb-false, ltb-true, ltb-false, lt-leb}
 use lib.ListN.{length, getD}
 use lib.Dec.{leb, ltb}
@@ -12,16 +12,21 @@ use lib.Ieee.{Float, nan}
 use Rattle.dsl.specs.declared.knobs.Adsr.{Adsr}
 use Rattle.dsl.specs.declared.note.SeqNote.{SeqNote}
 use Rattle.dsl.specs.declared.note.Decoded.{Decoded}
-use Rattle.dsl.specs.declared.note.Decoded.the-variants.{Note, Kind}
+use Rattle.dsl.specs.declared.note.Decoded.the-variants.{Note}
+use Rattle.dsl.proofs.Cases.{NoNote, by-kind}
 use Rattle.rng.specs.SplitMix64.{stateAfter}
-use Rattle.groove.specs.Length.{skipped}
 use Rattle.voice.proofs.Own.{note-length}
 use Rattle.mix.specs.Mix.{gained, mixedAt}
 use Rattle.mix.proofs.Mixing.{silence-length, silence-at, mixed-length, mixed-before, mixed-within, mixed-past}
-use Rattle.score.specs.Score.{Score, noteAt, count, place, drawsBefore}
-use Rattle.calls.specs.Frames.{samplesIn, mixedIn, withNote, framesAfter, scoreFrames}
-use Rattle.tally.specs.Sum.{among, gainedAt, frameAfter}
+use Rattle.outcome.specs.Answer.{framesIn}
+use Rattle.outcome.specs.declared.answer.Verdict.the-variants.{Fine}
+use Rattle.score.specs.Score.{Score, rateIn, noteIn, noteCount, place, skips, drawsBefore}
+use Rattle.score.specs.Refusals.{refusal}
 use Rattle.score.proofs.Notes.{all-within}
+use Rattle.score_contract.specs.Frames.{samplesIn, mixedIn, withNote, framesAfter, scoreFrames}
+use Rattle.tally.specs.Alone.{aloneOf, Alone}
+use Rattle.tally.specs.Sum.{among, gainedBy, gainedAt, frameAfter}
+use Rattle.tally.proofs.Alone.{alone}
 
 -- ---- one note
 -- any frame, after a note that ends within the frames
@@ -40,50 +45,60 @@ module _ (start : ℕ) (note : List Float) (env : Adsr) (len rate : ℕ) (gain :
 module _ (s : Score) (m : SeqNote) (g : ℕ) (out : List Float) where
   long : length (samplesIn s m g) ≡ place s m .sounded
   unfolding samplesIn
-  long = note-length (s .seq .rate) (s .seq .voice) (m .gain) _ _ g (place s m .sounded)
+  long = note-length (rateIn s) (s .seq .voice) (m .gain) _ _ g (place s m .sounded)
 
-  length-by : (b : Bool) → skipped (s .n) (place s m .start) ≡ b → length (mixedIn s m g out) ≡ length out
+  length-by : (b : Bool) → skips s m ≡ b → length (mixedIn s m g out) ≡ length out
   unfolding mixedIn
   length-by true e = rw e
-  length-by false e = rw e (mixed-length (place s m .start) (samplesIn s m g) (s .seq .env) (place s m .len) (s .seq .rate) (place s m .gain) out)
+  length-by false e = rw e (mixed-length (place s m .start) (samplesIn s m g) (s .seq .env) (place s m .len) (rateIn s) (place s m .gain) out)
 
-  frame-by : (b : Bool) → skipped (s .n) (place s m .start) ≡ b → length out ≡ s .n → (i : ℕ) → i < s .n → getD (mixedIn s m g out) i nan ≡ gainedAt s (Note m) g i (getD out i nan)
+  -- a skipped note starts past every frame, so that no frame is among its own; a sounded one has the note call's samples
+  frame-by : (b : Bool) → skips s m ≡ b → (b ≡ false → framesIn (aloneOf s m g) ≡ samplesIn s m g) → length out ≡ s .n → (i : ℕ) → i < s .n
+      → getD (mixedIn s m g out) i nan ≡ gainedAt s (Note m) g i (getD out i nan)
   unfolding mixedIn gainedAt
-  frame-by true e l i h =
+  frame-by true e own l i h =
       let past : i < place s m .start = omega (arith, leb-true (s .n) (place s m .start) e) in
       rw (e, lt-leb (place s m .start) i past)
-  frame-by false e l i h =
+  frame-by false e own l i h =
       let p = place s m in
       let fits : p .start + length (samplesIn s m g) ≤ length out = omega (arith, all-within s m e, long) in
-      rw e (rw long at (mixed-frame (p .start) (samplesIn s m g) (s .seq .env) (p .len) (s .seq .rate) (p .gain) out fits i))
+      rw (e, own refl) (rw long at (mixed-frame (p .start) (samplesIn s m g) (s .seq .env) (p .len) (rateIn s) (p .gain) out fits i))
 
 module _ (s : Score) (g : ℕ) (out : List Float) where
   with-length : (e : Decoded) → length (withNote s e g out) ≡ length out
   unfolding withNote
-  with-length (Note m) = length-by s m g out (skipped (s .n) (place s m .start)) refl
-  with-length Kind = refl
+  with-length = by-kind (λ e. length (withNote s e g out) ≡ length out) (λ m. length-by s m g out (skips s m) refl) (λ e none. ap length (none .other out (λ m. mixedIn s m g out)))
 
-  with-frame : (e : Decoded) → length out ≡ s .n → (i : ℕ) → i < s .n → getD (withNote s e g out) i nan ≡ gainedAt s e g i (getD out i nan)
+  no-frame : (e : Decoded) → NoNote e → (i : ℕ) → getD (withNote s e g out) i nan ≡ gainedAt s e g i (getD out i nan)
   unfolding withNote gainedAt
-  with-frame (Note m) l i h = frame-by s m g out (skipped (s .n) (place s m .start)) refl l i h
-  with-frame Kind l i h = refl
+  no-frame e none i = ap (λ (l : List Float). getD l i nan) (none .other out (λ m. mixedIn s m g out))
+      ∙ sym (none .other (getD out i nan) (λ m. gainedBy s m (framesIn (aloneOf s m g)) i (getD out i nan)))
 
 -- ---- the first k notes
 module _ (s : Score) (seed d : ℕ) where
   pub frames-length : (k : ℕ) → length (framesAfter s seed d k) ≡ s .n
   unfolding framesAfter
   frames-length zero = silence-length (s .n)
-  frames-length (suc k) = with-length s _ (framesAfter s seed d k) (noteAt (s .notes) k) ∙ frames-length k
+  frames-length (suc k) = with-length s _ (framesAfter s seed d k) (noteIn s k) ∙ frames-length k
 
-  frame-after : (i : ℕ) → i < s .n → (k : ℕ) → getD (framesAfter s seed d k) i nan ≡ frameAfter s seed d i k
-  unfolding framesAfter frameAfter
-  frame-after i h zero = silence-at (s .n) i nan h
-  frame-after i h (suc k) =
-      let e = noteAt (s .notes) k in
-      let g = stateAfter seed (d + drawsBefore s k) in
-      with-frame s g (framesAfter s seed d k) e (frames-length k) i h ∙ ap (gainedAt s e g i) (frame-after i h k)
+  module _ (each : Alone s) (i : ℕ) (h : i < s .n) where
+    with-frame : (k : ℕ) → k < noteCount s → (e : Decoded) → noteIn s k ≡ e → (g : ℕ) (out : List Float) → length out ≡ s .n
+        → getD (withNote s e g out) i nan ≡ gainedAt s e g i (getD out i nan)
+    unfolding withNote
+    with-frame k lt = by-kind
+        (λ e. noteIn s k ≡ e → (g : ℕ) (out : List Float) → length out ≡ s .n → getD (withNote s e g out) i nan ≡ gainedAt s e g i (getD out i nan))
+        (λ m is g out l. frame-by s m g out (skips s m) refl (λ heard. ap framesIn (each k m g lt is heard)) l i h)
+        (λ e none is g out l. no-frame s g out e none i)
 
--- THE THEOREM: frame i of a score
-pub frame-is : (s : Score) (seed d i : ℕ) → i < s .n → getD (scoreFrames s seed d) i nan ≡ frameAfter s seed d i (count s)
+    frame-after : (k : ℕ) → k ≤ noteCount s → getD (framesAfter s seed d k) i nan ≡ frameAfter s seed d i k
+    unfolding framesAfter frameAfter
+    frame-after zero le = silence-at (s .n) i nan h
+    frame-after (suc k) le =
+        let e = noteIn s k in
+        let g = stateAfter seed (d + drawsBefore s k) in
+        with-frame k (omega arith) e refl g (framesAfter s seed d k) (frames-length k) ∙ ap (gainedAt s e g i) (frame-after k (omega arith))
+
+-- THE THEOREM: frame i of an accepted score
+pub frame-is : (s : Score) → refusal s ≡ Fine → (seed d i : ℕ) → i < s .n → getD (scoreFrames s seed d) i nan ≡ frameAfter s seed d i (noteCount s)
 unfolding scoreFrames
-frame-is s seed d i h = frame-after s seed d i h (count s)
+frame-is s ok seed d i h = frame-after s seed d (alone s ok) i h (noteCount s) (le-refl (noteCount s))

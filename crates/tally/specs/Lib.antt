@@ -1,5 +1,6 @@
 pub mod Alone
 pub mod Tally
 pub mod Claim
-pub mod Setting
 pub mod Sum
+pub mod Lists
+pub mod Setting

@@ -1,2 +1,4 @@
 mod Shown
 pub mod Replying
+pub mod Refused
+pub mod Most

@@ -9,10 +9,10 @@ use borrow.Author.Tests.{lt-ltb, le-ltb, ltb-false}
 use lib.Dec.{ltb}
 use lib.ListN.{length, take, drop, length-append}
 use Rattle.laws.proofs.If.{if-true, if-false}
-use Rattle.listing.specs.Printed.{Printed, put}
-use Rattle.listing.proofs.Put.{printed-text}
+use Rattle.text_listing.specs.Printed.{Printed, put}
+use Rattle.text_listing.proofs.Put.{printed-text}
 use Rattle.text.specs.Listing.{listing}
-use Rattle.text.specs.Reply.{short, Replied}
+use Rattle.text.specs.Reply.{tooShort, replyOf, bytesAfter, Replied}
 use Rattle.text.specs.declared.call.Reply.{Reply}
 use Rattle.text.specs.declared.call.Reply.the-variants.{Listing, Short}
 
@@ -23,12 +23,14 @@ module _ (text reply₀ : List ℕ) {page₀ page : List ℕ} {n : ℕ} (p : Pri
   -- w bytes are written: all, or none where they do not fit
   module _ {w : ℕ} {reply : List ℕ} (some : w ≡ cond (ltb (length reply₀) n) 0 n) (e : reply ≡ take w page ++ drop w reply₀) where
     pub replied-short : length reply₀ < n → Replied text reply₀ Short reply
+    unfolding replyOf bytesAfter
     replied-short h =
         let none : w ≡ 0 = some ∙ sym (if-true n (lt-ltb _ _ h) refl) in
         let t = lt-ltb _ _ (rw size at h) in
         record { answer = if-true _ t refl; bytes = if-true _ t (rw none at e) }
 
     pub replied-whole : n ≤ length reply₀ → Replied text reply₀ (Listing n) reply
+    unfolding replyOf bytesAfter
     replied-whole h =
         let all : w ≡ n = some ∙ sym (if-false 0 (le-ltb _ _ h) refl) in
         let t = le-ltb _ _ (rw size at h) in record {
@@ -59,8 +61,9 @@ listed-is true n m e = (cc, cc)
 listed-is false n m e = (refl, cc)
 
 module _ {text reply₀ reply : List ℕ} {said : Reply} (h : Replied text reply₀ said reply) (n : ℕ) (told : said ≡ Listing n) where
-  pub listed : (short text reply₀ ≡ false) × (n ≡ length (listing text))
-  listed = listed-is (short text reply₀) n (length (listing text)) (rw told at (h .answer))
+  listed : (tooShort text reply₀ ≡ false) × (n ≡ length (listing text))
+  unfolding replyOf
+  listed = listed-is (tooShort text reply₀) n (length (listing text)) (rw told at (h .answer))
 
   -- the listing is within the reply
   pub length-within : n ≤ length reply₀

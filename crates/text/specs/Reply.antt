@@ -4,16 +4,30 @@ use mathlib.Core.Path.{_≡_}
 use mathlib.Core.List.{List, _++_}
 use mathlib.Core.Bool.{Bool, cond}
 use lib.ListN.{length, drop}
+use lib.IntN.{ℤ, pos, negsuc}
 use lib.Dec.{ltb}
 use Rattle.text.specs.Listing.{listing}
 use Rattle.text.specs.declared.call.Reply.{Reply}
 use Rattle.text.specs.declared.call.Reply.the-variants.{Listing, Short}
 
 -- "23 C call only: reply buffer shorter than the listing"
-abbrev pub short : List ℕ → List ℕ → Bool
-short text reply = ltb (length reply) (length (listing text))
+abbrev pub tooShort : List ℕ → List ℕ → Bool
+tooShort text reply₀ = ltb (length reply₀) (length (listing text))
+
+-- what a text call answers that is lent `reply₀`
+unfoldable pub replyOf : List ℕ → List ℕ → Reply
+replyOf text reply₀ = cond (tooShort text reply₀) Short (Listing (length (listing text)))
+
+-- and what it leaves in it
+unfoldable pub bytesAfter : List ℕ → List ℕ → List ℕ
+bytesAfter text reply₀ = cond (tooShort text reply₀) reply₀ (listing text ++ drop (length (listing text)) reply₀)
 
 -- The contract of a text call that is lent `reply₀` and leaves `reply`.
 pub record Replied (text reply₀ : List ℕ) (said : Reply) (reply : List ℕ) : Type 0 where
-  pub answer : said ≡ cond (short text reply₀) Short (Listing (length (listing text)))
-  pub bytes : reply ≡ cond (short text reply₀) reply₀ (listing text ++ drop (length (listing text)) reply₀)
+  pub answer : said ≡ replyOf text reply₀
+  pub bytes : reply ≡ bytesAfter text reply₀
+
+-- What the C call returns for each answer: "the listing's length in bytes, or −23" (`negsuc 22`).
+abbrev pub returnOf : Reply → ℤ
+returnOf (Listing n) = pos n
+returnOf Short = negsuc 22

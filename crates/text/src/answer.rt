@@ -2,14 +2,14 @@
 ghost use Prim.Native.Nat.{_≤_};
 ghost use lib.ListN.{length};
 ghost use Rattle.outcome.specs.Answer.{seen};
-ghost use Rattle.listing.specs.Printed.{Printed};
+ghost use Rattle.text_listing.specs.Printed.{Printed};
 ghost use Rattle.text.specs.Listing.{shownAt};
 use outcome::Outcome;
 use session::Answer;
 
 // Prints an answer and the frames that the call left at the start of `page`, and gives the place
 // after them.
-pub fn print_answer(page: &mut [u8], answer: Answer, frames: &[f32]) -> usize
+pub(crate) fn print_answer(page: &mut [u8], answer: Answer, frames: &[f32]) -> usize
     requires { ⌜ length (now frames) ≤ 2048 ⌝ }
     requires { ⌜ 32808 ≤ length (now page) ⌝ }
     ensures { λ r. ⌜ Printed (shownAt (answer .session .rng .0) (answer .session .draw) (seen (answer .outcome) (now (frames .entry)))) 0 (now (page .entry)) r (now (page .exit)) ⌝ }
@@ -19,8 +19,8 @@ pub fn print_answer(page: &mut [u8], answer: Answer, frames: &[f32]) -> usize
         Outcome::Played(_) => {
             let session = answer.session;
             let rng = session.rng;
-            listing::put_listing(page, rng.state(), session.draw, frames)
+            text_listing::put_listing(page, rng.state(), session.draw, frames)
         }
-        Outcome::Refused(refusal) => listing::put_refusal(page, refusal.number()),
+        Outcome::Refused(refusal) => text_listing::put_refusal(page, refusal.number()),
     }
 }

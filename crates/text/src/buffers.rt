@@ -4,27 +4,27 @@ ghost use mathlib.Core.Path.{_≡_};
 ghost use lib.ListN.{length};
 
 // Frames, or a note's samples: n is at most 2,048.
-pub fn frames_buffer() -> [f32; 2048]
+pub(crate) fn frames_buffer() -> [f32; 2048]
     ensures { λ r. ⌜ 2048 ≡ length r ⌝ }
 {
     [0.0f32; 2048]
 }
 
-pub fn string_buffer() -> [f32; 9600]
+pub(crate) fn string_buffer() -> [f32; 9600]
     ensures { λ r. ⌜ 9600 ≡ length r ⌝ }
 {
     [0.0f32; 9600]
 }
 
 // The words of 256 notes.
-pub fn words_buffer() -> [u32; 1280]
+pub(crate) fn words_buffer() -> [u32; 1280]
     ensures { λ r. ⌜ 1280 ≡ length r ⌝ }
 {
     [0u32; 1280]
 }
 
 // A listing: at most 40 bytes for its G line and 16 for each of 2,048 F lines.
-pub fn page_buffer() -> [u8; 32808]
+pub(crate) fn page_buffer() -> [u8; 32808]
     ensures { λ r. ⌜ 32808 ≡ length r ⌝ }
 {
     [0u8; 32808]

@@ -1,15 +1,15 @@
 // The text call.
 ghost use Prim.Native.Nat.{_≤_};
 ghost use lib.ListN.{length};
-ghost use Rattle.listing.specs.Printed.{Printed};
+ghost use Rattle.text_listing.specs.Printed.{Printed};
 ghost use Rattle.text.specs.Listing.{listing};
 ghost use Rattle.text.specs.Reply.{Replied};
 use crate::buffers::page_buffer;
 use crate::buffers::words_buffer;
 use crate::play::play_score;
-use copying::copy_bytes;
-use copying::written_bytes;
-use read::Parsed;
+use text_copy::copy_bytes;
+use text_copy::written_bytes;
+use text_read::Parsed;
 
 // Prints the listing of a text score at the start of `page`, and gives its length.
 fn print_listing(text: &[u8], page: &mut [u8]) -> usize
@@ -17,17 +17,17 @@ fn print_listing(text: &[u8], page: &mut [u8]) -> usize
     ensures { λ r. ⌜ Printed (listing (now (text .entry))) 0 (now (page .entry)) r (now (page .exit)) ⌝ }
 {
     if text.len() > 65536 {
-        return listing::put_refusal(page, 16);
+        return text_listing::put_refusal(page, 16);
     }
     let mut notes = words_buffer();
-    let Parsed::Score(score) = read::read_score(text, &mut notes) else {
-        return listing::put_refusal(page, 15);
+    let Parsed::Score(score) = text_read::read_score(text, &mut notes) else {
+        return text_listing::put_refusal(page, 15);
     };
     if score.n > 2048 {
-        return listing::put_refusal(page, 16);
+        return text_listing::put_refusal(page, 16);
     }
     if score.count > 256 {
-        return listing::put_refusal(page, 16);
+        return text_listing::put_refusal(page, 16);
     }
     let words = &notes[..score.count * 5];
     play_score(

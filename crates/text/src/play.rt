@@ -1,7 +1,7 @@
 // The score call of a text score.
 ghost use Prim.Native.Nat.{_≤_};
 ghost use lib.ListN.{length};
-ghost use Rattle.listing.specs.Printed.{Printed};
+ghost use Rattle.text_listing.specs.Printed.{Printed};
 ghost use Rattle.text.specs.Listing.{played};
 use crate::answer::print_answer;
 use crate::buffers::frames_buffer;
@@ -11,7 +11,14 @@ use session::Session;
 
 // Plays n frames from the session that `seed` and `draw` open, prints the listing at the start of
 // `page`, and gives its length.
-pub fn play_score(seq: Seq, notes: &[u32], n: usize, seed: u64, draw: u64, page: &mut [u8]) -> usize
+pub(crate) fn play_score(
+    seq: Seq,
+    notes: &[u32],
+    n: usize,
+    seed: u64,
+    draw: u64,
+    page: &mut [u8],
+) -> usize
     requires { ⌜ n ≤ 2048 ⌝ }
     requires { ⌜ 32808 ≤ length (now page) ⌝ }
     ensures { λ r. ⌜ Printed (played seq (now (notes .entry)) n seed draw) 0 (now (page .entry)) r (now (page .exit)) ⌝ }

@@ -1,12 +1,12 @@
 // The C call: what a rig's host links.
-ghost use Rattle.tono.specs.Returned.{Returned};
+ghost use Rattle.tono.specs.Answered.{Answered};
 use text::Reply;
 
 // Writes the listing of the text score `score` at the start of `reply`, and returns its length in
 // bytes. Where the reply is shorter than the listing it returns -23, and no byte changes.
 #[no_mangle]
 pub extern "C" fn tono_play(score: &[u8], reply: &mut [u8]) -> i64
-    ensures { λ r. ⌜ Returned (now (score .entry)) (now (reply .entry)) r (now (reply .exit)) ⌝ }
+    ensures { λ r. ⌜ Answered (now (score .entry)) (now (reply .entry)) r (now (reply .exit)) ⌝ }
 {
     match text::play_text(score, reply) {
         Reply::Listing(length) => length as i64,

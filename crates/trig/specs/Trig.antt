@@ -4,9 +4,9 @@ use mathlib.Core.Bool.{cond}
 use lib.Dec.{eqb}
 use lib.IntN.{ℤ, pos, negsuc}
 use lib.Ieee.{Float, binary64, ofBits, neg, ofInt, toSigned}
-use Rattle.ieee.specs.Binary64.{_⊕_, _⊖_, _⊗_, _⊘_}
+use Rattle.ieee.specs.Binary64.{_⊞_, _⊟_, _⊠_, _⧄_}
 use Rattle.ieee.specs.Whole.{roundOf}
-use Rattle.ieee.specs.Numbers64.{c0·5, c1}
+use Rattle.ieee.specs.Numbers64.{d0·5, d1}
 
 -- 2π in three parts
 -- TAU, 6.28318530717958647692528676655900577
@@ -56,8 +56,8 @@ S6 = ofBits binary64 0x3de5_d93a_5acf_d57c
 -- fn sin_poly: sine near zero
 unfoldable pub sinPoly : Float → Float
 sinPoly x =
-    let z = x ⊗ x in
-    x ⊕ x ⊗ z ⊗ (S1 ⊕ z ⊗ (S2 ⊕ z ⊗ (S3 ⊕ z ⊗ (S4 ⊕ z ⊗ (S5 ⊕ z ⊗ S6)))))
+    let z = x ⊠ x in
+    x ⊞ x ⊠ z ⊠ (S1 ⊞ z ⊠ (S2 ⊞ z ⊠ (S3 ⊞ z ⊠ (S4 ⊞ z ⊠ (S5 ⊞ z ⊠ S6)))))
 
 -- 4.16666666666666019037e-02
 abbrev pub C1 : Float
@@ -86,16 +86,16 @@ C6 = ofBits binary64 0xbda8_fae9_be88_38d4
 -- fn cos_poly: cosine near zero
 unfoldable pub cosPoly : Float → Float
 cosPoly x =
-    let z = x ⊗ x in
-    c1 ⊖ c0·5 ⊗ z ⊕ z ⊗ z ⊗ (C1 ⊕ z ⊗ (C2 ⊕ z ⊗ (C3 ⊕ z ⊗ (C4 ⊕ z ⊗ (C5 ⊕ z ⊗ C6)))))
+    let z = x ⊠ x in
+    d1 ⊟ d0·5 ⊠ z ⊞ z ⊠ z ⊠ (C1 ⊞ z ⊠ (C2 ⊞ z ⊠ (C3 ⊞ z ⊠ (C4 ⊞ z ⊠ (C5 ⊞ z ⊠ C6)))))
 
 -- x less k times 2π: the last line of fn reduce_2pi
 unfoldable pub lessTurns : Float → Float → Float
-lessTurns x k = x ⊖ k ⊗ PI2·HI ⊖ k ⊗ PI2·MID ⊖ k ⊗ PI2·LO
+lessTurns x k = x ⊟ k ⊠ PI2·HI ⊟ k ⊠ PI2·MID ⊟ k ⊠ PI2·LO
 
 -- fn reduce_2pi: x less a multiple of 2π
 unfoldable pub reduce2pi : Float → Float
-reduce2pi x = lessTurns x (roundOf (x ⊗ INV·PI2))
+reduce2pi x = lessTurns x (roundOf (x ⊠ INV·PI2))
 
 -- `q.rem_euclid(4)`, the r from 0 to 3 for which q - r is a multiple of 4. For a negative q = -1 - m that is 3 - m % 4.
 unfoldable pub remEuclid4 : ℤ → ℕ
@@ -113,14 +113,14 @@ quadrant n a =
 -- fn sin below its first line. The cast to i64 is `toSigned 63`, the one back is `ofInt`.
 unfoldable pub sinReduced : Float → Float
 sinReduced r =
-    let q = toSigned 63 (roundOf (r ⊘ FRAC·PI·2)) in
-    let a = r ⊖ ofInt binary64 q ⊗ FRAC·PI·2 in
+    let q = toSigned 63 (roundOf (r ⧄ FRAC·PI·2)) in
+    let a = r ⊟ ofInt binary64 q ⊠ FRAC·PI·2 in
     quadrant (remEuclid4 q) a
 
 -- fn sin
-unfoldable pub sinOf : Float → Float
-sinOf x = sinReduced (reduce2pi x)
+unfoldable pub sin64 : Float → Float
+sin64 x = sinReduced (reduce2pi x)
 
 -- fn cos
-unfoldable pub cosOf : Float → Float
-cosOf x = sinOf (x ⊕ FRAC·PI·2)
+unfoldable pub cos64 : Float → Float
+cos64 x = sin64 (x ⊞ FRAC·PI·2)

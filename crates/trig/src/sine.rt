@@ -1,7 +1,7 @@
 // Sine and cosine: the argument is brought near zero, and a polynomial of fdlibm does the rest.
 ghost use mathlib.Core.Path.{_≡_};
 ghost use Rattle.ieee.specs.Whole.{roundOf};
-ghost use Rattle.trig.specs.Trig.{sinPoly, cosPoly, lessTurns, reduce2pi, remEuclid4, quadrant, sinReduced, sinOf, cosOf};
+ghost use Rattle.trig.specs.Trig.{sinPoly, cosPoly, lessTurns, reduce2pi, remEuclid4, quadrant, sinReduced, sin64, cos64};
 use float::Near;
 
 // 2π in three parts: the later ones carry what the f64 nearest to 2π drops.
@@ -128,14 +128,12 @@ fn by_quadrant(n: u64, a: f64) -> f64
     }
 }
 
-// The sine of any r. q is the number of quarter turns nearest to it. det.rs writes `q as f64` where
-// this has `rounded_again(k)`, the same number.
+// The sine of any r. q is the number of quarter turns nearest to it.
 fn sin_any(r: f64) -> f64
     ensures { λ s. ⌜ s ≡ sinReduced r ⌝ }
 {
-    let k = float::round_f64(r / FRAC_PI_2);
-    let q = float::rounded_to_i64(k);
-    let a = r - float::rounded_again(k) * FRAC_PI_2;
+    let q = float::f64_to_i64(float::round_f64(r / FRAC_PI_2));
+    let a = r - std::num::nearest_i64_to_f64(q) * FRAC_PI_2;
     by_quadrant(rem_euclid_4(q), a)
 }
 
@@ -167,14 +165,14 @@ fn sin_reduced(r: f64) -> f64
 }
 
 pub fn sin(x: f64) -> f64
-    ensures { λ r. ⌜ r ≡ sinOf x ⌝ }
+    ensures { λ r. ⌜ r ≡ sin64 x ⌝ }
 {
     sin_reduced(reduce_2pi(x))
 }
 
 // cos(x) = sin(x + π/2), by the same kernel.
 pub fn cos(x: f64) -> f64
-    ensures { λ r. ⌜ r ≡ cosOf x ⌝ }
+    ensures { λ r. ⌜ r ≡ cos64 x ⌝ }
 {
     sin(x + FRAC_PI_2)
 }

@@ -1,83 +1,101 @@
 -- A note reads its pitch and its duty only at its own frames, and has as many samples as frames. Use where a note of a score is played alone. Assumes nothing.
-use Prim.Native.Nat.{ℕ, zero, suc}
-use mathlib.Core.Path.{_≡_, refl, ap}
-use native.Mathlib.Nat.{zero-lt-suc}
+use Prim.Native.Nat.{ℕ}
+use mathlib.Core.Path.{_≡_, refl, _∙_}
+use mathlib.Core.List.{List}
 use lib.ListN.{length}
 use lib.Ieee.{Float}
 use Rattle.ieee.specs.Numbers.{f32}
 use Rattle.laws.specs.Run.{samples}
 use Rattle.laws.proofs.Fill.{samples-length}
-use Rattle.laws.proofs.Same.{Below}
+use Rattle.laws.proofs.Own.{Below, own-frames, own-first}
 use Rattle.dsl.specs.declared.wave.SeqWave.{SeqWave}
 use Rattle.dsl.specs.declared.wave.SeqWave.the-variants.{Square, Triangle, Sawtooth, Sine, Noise, Fm, Pluck, Piano, Epiano, Organ, Strings, Brass, Flute, Mallet, Bell, Bass, Cowbell}
-use Rattle.waves.specs.Pulse.{squareFrames, triangleFrames}
-use Rattle.waves.specs.Plain.{sawtoothFrames, sineFrames}
-use Rattle.waves.specs.Noise.{noiseFrames}
-use Rattle.waves.specs.Fm.{fmFrames}
-use Rattle.kit.specs.Voice.{cowbellFrames}
-use Rattle.waves.proofs.Own.{squareSame, triangleSame, sawtoothSame, sineSame, fmSame}
-use Rattle.kit.proofs.Own.{cowbellSame}
-use Rattle.struck.specs.Epiano.{epianoFrames}
-use Rattle.chimed.specs.Mallet.{malletFrames}
-use Rattle.chimed.specs.Bell.{bellFrames}
-use Rattle.struck.specs.Bass.{bassFrames}
-use Rattle.struck.proofs.Own.{epianoSame, bassSame}
-use Rattle.chimed.proofs.Own.{malletSame, bellSame}
-use Rattle.sustained.specs.Organ.{organFrames}
-use Rattle.sustained.specs.Strings.{stringsFrames}
-use Rattle.blown.specs.Brass.{brassFrames}
-use Rattle.blown.specs.Flute.{fluteFrames}
-use Rattle.sustained.proofs.Own.{organSame, stringsSame}
-use Rattle.blown.proofs.Own.{brassSame, fluteSame}
-use Rattle.plucked.specs.Pluck.{ringFrames, pluckFrames}
-use Rattle.stringed.specs.Piano.{soundFrames, pianoFrames}
-use Rattle.stringed.proofs.Pianos.{piano-same}
+use Rattle.voice_waves.specs.Pulse.{squareAt, triangleAt, squareFrames, triangleFrames}
+use Rattle.voice_waves.specs.Plain.{sawtoothAt, sineAt, sawtoothFrames, sineFrames}
+use Rattle.voice_noise.proofs.Draws.{noise-length}
+use Rattle.voice_waves.specs.Fm.{fmAt, fmFrames}
+use Rattle.voice_cowbell.specs.Cowbell.{cowbellAt, cowbellFrames}
+use Rattle.voice_epiano.specs.Epiano.{epianoDecay, epianoAt, epianoStart, epianoFrames}
+use Rattle.voice_mallet.specs.Mallet.{malletAt, malletFrames}
+use Rattle.voice_bell.specs.Bell.{bellAt, bellFrames}
+use Rattle.voice_bass.specs.Bass.{bassAt, bassFrames}
+use Rattle.voice_organ.specs.Organ.{organAt, organFrames}
+use Rattle.voice_strings.specs.Strings.{stringsLowpass, stringsAt, stringsFrames}
+use Rattle.voice_brass.specs.Brass.{brassAt, brassFrames}
+use Rattle.voice_flute.specs.Flute.{fluteLowpass, fluteAt, fluteFrames}
+use Rattle.voice_pluck.specs.Pluck.{ringFrames, pluckFrames}
+use Rattle.voice_piano.specs.Piano.{pianoAt, normOf, soundFrames, pianoFrames}
+use Rattle.voice_piano.specs.Hammer.{blowOf, partialsOf}
+use Rattle.voice_piano.specs.Wires.{pairOf}
+use Rattle.voice_piano.specs.declared.hammer.Partial.{Partial}
 use Rattle.counts.specs.Period.{periodOf}
 use Rattle.voice.specs.Voice.{waveFrames, noteFrames}
 use Rattle.dsl.specs.declared.knobs.SeqVoice.{SeqVoice}
 
+module _ (r : ℕ) (v : SeqVoice) (gain : Float) (f f′ d d′ : ℕ → Float) (s n : ℕ) (h : Below f f′ n) where
+  -- those that also read their first pitch read none where they have no frame
+  pluck-same : waveFrames Pluck r v gain f d s n ≡ waveFrames Pluck r v gain f′ d′ s n
+  unfolding waveFrames ringFrames samples
+  pluck-same = own-first (λ first. pluckFrames (v .pluck) (f32 r) (periodOf r first) s) (λ x y. refl) f f′ n h
+
+  piano-same : waveFrames Piano r v gain f d s n ≡ waveFrames Piano r v gain f′ d′ s n
+  unfolding waveFrames pianoFrames soundFrames samples
+  piano-same =
+      let det = pairOf (v .piano .«piano_detune») in
+      let ps : Float → List Partial = λ first. partialsOf (blowOf (v .piano) gain first) (f32 r) in
+      own-first (λ first. soundFrames f (f32 r) det (normOf (ps first)) (record { partials = ps first; rng = s })) (λ x y. refl) f f′ n h
+      ∙ own-frames (λ p. pianoAt p (f32 r) det (normOf (ps (f′ 0)))) (λ r. r .sample) (λ r. r .state) (record { partials = ps (f′ 0); rng = s }) f f′ n h
+
+  epiano-same : waveFrames Epiano r v gain f d s n ≡ waveFrames Epiano r v gain f′ d′ s n
+  unfolding waveFrames epianoFrames samples
+  epiano-same =
+      own-first (λ first. samples (λ i. epianoAt (f i) gain (f32 r) (epianoDecay first) i) (λ r. r .sample) (λ r. r .state) epianoStart) (λ x y. refl) f f′ n h
+      ∙ own-frames (λ p. epianoAt p gain (f32 r) (epianoDecay (f′ 0))) (λ r. r .sample) (λ r. r .state) epianoStart f f′ n h
+
+  wave-same : (w : SeqWave) → Below d d′ n → waveFrames w r v gain f d s n ≡ waveFrames w r v gain f′ d′ s n
+  unfolding waveFrames squareFrames triangleFrames sawtoothFrames sineFrames fmFrames organFrames stringsFrames brassFrames fluteFrames malletFrames bellFrames bassFrames cowbellFrames
+  wave-same Square e = own-frames (λ (p : Float × Float) i. squareAt (p .0) (p .1) (f32 r)) _ _ _ (λ i. (f i, d i)) (λ i. (f′ i, d′ i)) n (λ i l j. (h i l j, e i l j))
+  wave-same Triangle e = own-frames (λ p i. triangleAt p (f32 r)) _ _ _ f f′ n h
+  wave-same Sawtooth e = own-frames (λ p i. sawtoothAt p (f32 r)) _ _ _ f f′ n h
+  wave-same Sine e = own-frames (λ p i. sineAt p (f32 r)) _ _ _ f f′ n h
+  wave-same Noise e = refl
+  wave-same Fm e = own-frames (λ p. fmAt p (v .fm) gain (f32 r)) _ _ _ f f′ n h
+  wave-same Pluck e = pluck-same
+  wave-same Piano e = piano-same
+  wave-same Epiano e = epiano-same
+  wave-same Organ e = own-frames (λ p. organAt p (f32 r)) _ _ _ f f′ n h
+  wave-same Strings e = own-frames (λ p. stringsAt p (f32 r) (stringsLowpass (f32 r))) _ _ _ f f′ n h
+  wave-same Brass e = own-frames (λ p. brassAt p gain (f32 r)) _ _ _ f f′ n h
+  wave-same Flute e = own-frames (λ p. fluteAt p gain (f32 r) (fluteLowpass (f32 r))) _ _ _ f f′ n h
+  wave-same Mallet e = own-frames (λ p. malletAt p gain (f32 r)) _ _ _ f f′ n h
+  wave-same Bell e = own-frames (λ p. bellAt p (f32 r)) _ _ _ f f′ n h
+  wave-same Bass e = own-frames (λ p. bassAt p (v .bass) gain (f32 r)) _ _ _ f f′ n h
+  wave-same Cowbell e = own-frames (λ p i (s : ℕ). cowbellAt p (f32 r) i) _ _ _ f f′ n h
+
 module _ (r : ℕ) (v : SeqVoice) (gain : Float) (f f′ d d′ : ℕ → Float) (s : ℕ) where
-  -- a pluck reads only its first pitch, and with no frame not even that
-  pluck-same : (n : ℕ) → Below f f′ n → pluckFrames (v .pluck) (f32 r) (periodOf r (f 0)) s n ≡ pluckFrames (v .pluck) (f32 r) (periodOf r (f′ 0)) s n
-  unfolding ringFrames samples
-  pluck-same zero h = refl
-  pluck-same (suc n) h = ap (λ (first : Float). pluckFrames (v .pluck) (f32 r) (periodOf r first) s (suc n)) (h 0 (zero-lt-suc n))
-
-  wave-same : (w : SeqWave) (n : ℕ) → Below f f′ n → Below d d′ n → waveFrames w r v gain f d s n ≡ waveFrames w r v gain f′ d′ s n
-  unfolding waveFrames
-  wave-same Square n h e = squareSame f f′ (f32 r) n h d d′ e
-  wave-same Triangle n h e = triangleSame f f′ (f32 r) n h
-  wave-same Sawtooth n h e = sawtoothSame f f′ (f32 r) n h
-  wave-same Sine n h e = sineSame f f′ (f32 r) n h
-  wave-same Noise n h e = refl
-  wave-same Fm n h e = fmSame f f′ (f32 r) n h (v .fm) gain
-  wave-same Pluck n h e = pluck-same n h
-  wave-same Piano n h e = piano-same f f′ (v .piano) gain (f32 r) s n h
-  wave-same Epiano n h e = epianoSame f f′ (f32 r) gain n h
-  wave-same Organ n h e = organSame f f′ (f32 r) n h
-  wave-same Strings n h e = stringsSame f f′ (f32 r) n h
-  wave-same Brass n h e = brassSame f f′ (f32 r) gain n h
-  wave-same Flute n h e = fluteSame f f′ (f32 r) gain (record { 0 = s }) n h
-  wave-same Mallet n h e = malletSame f f′ (f32 r) gain n h
-  wave-same Bell n h e = bellSame f f′ (f32 r) n h
-  wave-same Bass n h e = bassSame f f′ (f32 r) (v .bass) gain n h
-  wave-same Cowbell n h e = cowbellSame f f′ (f32 r) n h
-
   -- pitches and duties that agree below n give the same n samples
   pub note-same : (n : ℕ) → Below f f′ n → Below d d′ n → noteFrames r v gain f d s n ≡ noteFrames r v gain f′ d′ s n
-  note-same = wave-same (v .wave)
+  note-same n h = wave-same r v gain f f′ d d′ s n h (v .wave)
 
 module _ (r : ℕ) (v : SeqVoice) (gain : Float) (f d : ℕ → Float) (s n : ℕ) where
+  pluck-length : length (waveFrames Pluck r v gain f d s n) ≡ n
+  unfolding waveFrames ringFrames
+  pluck-length = samples-length _ _ _ _ n
+
+  piano-length : length (waveFrames Piano r v gain f d s n) ≡ n
+  unfolding waveFrames pianoFrames soundFrames
+  piano-length = samples-length _ _ _ _ n
+
   wave-length : (w : SeqWave) → length (waveFrames w r v gain f d s n) ≡ n
-  unfolding waveFrames squareFrames triangleFrames sawtoothFrames sineFrames noiseFrames fmFrames ringFrames pianoFrames soundFrames epianoFrames organFrames stringsFrames brassFrames fluteFrames malletFrames bellFrames bassFrames cowbellFrames
+  unfolding waveFrames squareFrames triangleFrames sawtoothFrames sineFrames fmFrames epianoFrames organFrames stringsFrames brassFrames fluteFrames malletFrames bellFrames bassFrames cowbellFrames
   wave-length Square = samples-length _ _ _ _ n
   wave-length Triangle = samples-length _ _ _ _ n
   wave-length Sawtooth = samples-length _ _ _ _ n
   wave-length Sine = samples-length _ _ _ _ n
-  wave-length Noise = samples-length _ _ _ _ n
+  wave-length Noise = noise-length s n
   wave-length Fm = samples-length _ _ _ _ n
-  wave-length Pluck = samples-length _ _ _ _ n
-  wave-length Piano = samples-length _ _ _ _ n
+  wave-length Pluck = pluck-length
+  wave-length Piano = piano-length
   wave-length Epiano = samples-length _ _ _ _ n
   wave-length Organ = samples-length _ _ _ _ n
   wave-length Strings = samples-length _ _ _ _ n

@@ -5,21 +5,21 @@ use lib.Ieee.{Float}
 use Rattle.ieee.specs.Numbers.{f32}
 use Rattle.dsl.specs.declared.wave.SeqWave.{SeqWave}
 use Rattle.dsl.specs.declared.wave.SeqWave.the-variants.{Square, Triangle, Sawtooth, Sine, Noise, Fm, Pluck, Piano, Epiano, Organ, Strings, Brass, Flute, Mallet, Bell, Bass, Cowbell}
-use Rattle.waves.specs.Pulse.{squareFrames, triangleFrames}
-use Rattle.waves.specs.Plain.{sawtoothFrames, sineFrames}
-use Rattle.waves.specs.Noise.{noiseFrames}
-use Rattle.waves.specs.Fm.{fmFrames}
-use Rattle.kit.specs.Voice.{cowbellFrames}
-use Rattle.struck.specs.Epiano.{epianoFrames}
-use Rattle.chimed.specs.Mallet.{malletFrames}
-use Rattle.chimed.specs.Bell.{bellFrames}
-use Rattle.struck.specs.Bass.{bassFrames}
-use Rattle.sustained.specs.Organ.{organFrames}
-use Rattle.sustained.specs.Strings.{stringsFrames}
-use Rattle.blown.specs.Brass.{brassFrames}
-use Rattle.blown.specs.Flute.{fluteFrames}
-use Rattle.plucked.specs.Pluck.{pluckFrames}
-use Rattle.stringed.specs.Piano.{pianoFrames}
+use Rattle.voice_waves.specs.Pulse.{squareFrames, triangleFrames}
+use Rattle.voice_waves.specs.Plain.{sawtoothFrames, sineFrames}
+use Rattle.voice_noise.specs.Noise.{noiseFrames}
+use Rattle.voice_waves.specs.Fm.{fmFrames}
+use Rattle.voice_cowbell.specs.Cowbell.{cowbellFrames}
+use Rattle.voice_epiano.specs.Epiano.{epianoFrames}
+use Rattle.voice_mallet.specs.Mallet.{malletFrames}
+use Rattle.voice_bell.specs.Bell.{bellFrames}
+use Rattle.voice_bass.specs.Bass.{bassFrames}
+use Rattle.voice_organ.specs.Organ.{organFrames}
+use Rattle.voice_strings.specs.Strings.{stringsFrames}
+use Rattle.voice_brass.specs.Brass.{brassFrames}
+use Rattle.voice_flute.specs.Flute.{fluteFrames}
+use Rattle.voice_pluck.specs.Pluck.{pluckFrames}
+use Rattle.voice_piano.specs.Piano.{pianoFrames}
 use Rattle.counts.specs.Period.{periodOf}
 use Rattle.dsl.specs.declared.knobs.SeqVoice.{SeqVoice}
 
@@ -29,7 +29,7 @@ waveFrames Square r v gain f d s n = squareFrames f d (f32 r) n
 waveFrames Triangle r v gain f d s n = triangleFrames f (f32 r) n
 waveFrames Sawtooth r v gain f d s n = sawtoothFrames f (f32 r) n
 waveFrames Sine r v gain f d s n = sineFrames f (f32 r) n
-waveFrames Noise r v gain f d s n = noiseFrames (record { 0 = s }) n
+waveFrames Noise r v gain f d s n = noiseFrames s n
 waveFrames Fm r v gain f d s n = fmFrames f (v .fm) gain (f32 r) n
 waveFrames Pluck r v gain f d s n = pluckFrames (v .pluck) (f32 r) (periodOf r (f 0)) s n
 waveFrames Piano r v gain f d s n = pianoFrames f (v .piano) gain (f32 r) s n

@@ -2,7 +2,7 @@
 // wave and gives rate, gain, state, frames, the pitches and duties of the first frames, of which the
 // last goes on, and the knobs; the samples and the state after them are appended.
 ghost use Prim.Native.Nat.{_≤_, _<_};
-use knobs::VoiceAt;
+use harness_knobs::VoiceAt;
 use libc::STDIN_FILENO;
 use rng::Rng;
 
@@ -52,7 +52,7 @@ fn print_samples(out: &[f32; 128], frames: usize)
 // Fills `out` with the line's note; the generator after it. Where the wave is none, nothing changes.
 fn sound(line: &[u8], set: &[f32], pitch: &[f32], duty: &[f32], out: &mut [f32]) -> Rng {
     let rng = Rng::new(vectors::u64_field(line, 4));
-    let VoiceAt::Voice(voice) = knobs::voice_at(vectors::u32_field(line, 1), set) else {
+    let VoiceAt::Voice(voice) = harness_knobs::voice_at(vectors::u32_field(line, 1), set) else {
         return rng;
     };
     let rate = vectors::u32_field(line, 2);

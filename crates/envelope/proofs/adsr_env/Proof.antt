@@ -6,12 +6,11 @@ use borrow.Author.Needs.{needs}
 use Rattle.envelope.proofs.adsr_env.Statement.{statement}
 use Rattle.envelope.proofs.adsr_env.Tie as tie
 
-level-requires : tie.Need-level-requires
-level-requires c κs = search needs
-
 returns : tie.Need-returns
 unfolding adsrEnv punchedOf
-returns c = if-true _ (c .before .before .before .if1 .taken) (if-true _ (c .before .before .if2 .taken) (if-true _ (c .before .if3 .taken) (rw (c .before .before .before .before .before .before .level .ensures))))
+returns c =
+    let b6 = c .before .before .before .before .before .before in
+    if-true _ (c .before .before .before .if1 .taken) (if-true _ (c .before .before .if2 .taken) (if-true _ (c .before .if3 .taken) (rw (b6 .level .ensures))))
 
 returns-2 : tie.Need-returns-2
 unfolding adsrEnv punchedOf
@@ -24,4 +23,4 @@ returns-2 c =
     (c .if1 .came)
 
 pub adsr-env-spec : {M : Type 1} → statement M
-adsr-env-spec = tie.close (tie.spec level-requires returns returns-2)
+adsr-env-spec = tie.close (tie.spec (λ c κs. search needs) returns returns-2)

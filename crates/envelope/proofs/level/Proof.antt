@@ -6,15 +6,9 @@ use borrow.Author.Needs.{needs}
 use Rattle.envelope.proofs.level.Statement.{statement}
 use Rattle.envelope.proofs.level.Tie as tie
 
-share-requires : tie.Need-share-requires
-share-requires c κs = search needs
-
 returns : tie.Need-returns
 unfolding levelOf
 returns c = if-true _ (c .before .if1 .taken) (rw (c .share .ensures))
-
-share-requires-2 : tie.Need-share-requires-2
-share-requires-2 c κs = search needs
 
 returns-2 : tie.Need-returns-2
 unfolding levelOf
@@ -24,26 +18,29 @@ returns-3 : tie.Need-returns-3
 unfolding levelOf
 returns-3 c = if-false _ (c .before .before .before .if1 .left) (if-false _ (c .before .if2 .left) (if-true _ (c .if3 .taken) refl))
 
-clamp-f32-requires : tie.Need-clamp-f32-requires
-clamp-f32-requires c κs = search needs
-
 returns-4 : tie.Need-returns-4
 unfolding levelOf
-returns-4 c = if-false _ (c .before .before .before .before .before .before .before .before .if1 .left) (if-false _ (c .before .before .before .before .before .before .if2 .left) (if-false _ (c .before .before .before .before .before .if3 .left) (if-true _ (c .before .before .before .if4 .taken) (rw (c .before .clamp-f32 .ensures)))))
+returns-4 c =
+    let b5 = c .before .before .before .before .before in
+    let b6 = c .before .before .before .before .before .before in
+    let b8 = c .before .before .before .before .before .before .before .before in
+    if-false _ (b8 .if1 .left) (if-false _ (b6 .if2 .left) (if-false _ (b5 .if3 .left) (if-true _ (c .before .before .before .if4 .taken) (rw (c .before .clamp-f32 .ensures)))))
 
 returns-5 : tie.Need-returns-5
 unfolding levelOf
-returns-5 c = if-false _ (c .before .before .before .before .before .if1 .left) (if-false _ (c .before .before .before .if2 .left) (if-false _ (c .before .before .if3 .left) (if-false _ (c .if4 .left) refl)))
+returns-5 c =
+    let b5 = c .before .before .before .before .before in
+    if-false _ (b5 .if1 .left) (if-false _ (c .before .before .before .if2 .left) (if-false _ (c .before .before .if3 .left) (if-false _ (c .if4 .left) refl)))
 
 pub level-spec : {M : Type 1} → statement M
 level-spec =
     tie.close
     (tie.spec
-    share-requires
+    (λ c κs. search needs)
     returns
-    share-requires-2
+    (λ c κs. search needs)
     returns-2
     returns-3
-    clamp-f32-requires
+    (λ c κs. search needs)
     returns-4
     returns-5)

@@ -4,19 +4,10 @@ use borrow.Author.Needs.{needs}
 use Rattle.envelope.proofs.release_start.Statement.{statement}
 use Rattle.envelope.proofs.release_start.Tie as tie
 
-nearest-u32-to-f32-requires : tie.Need-nearest-u32-to-f32-requires
-nearest-u32-to-f32-requires c κs = search needs
-
-frame-time-requires : tie.Need-frame-time-requires
-frame-time-requires c κs = search needs
-
-max-f32-requires : tie.Need-max-f32-requires
-max-f32-requires c κs = search needs
-
 returns : tie.Need-returns
 unfolding releaseStart
 returns c = rw (c .max-f32 .ensures, c .before .before .frame-time .ensures, c .before .before .before .nearest-u32-to-f32 .ensures)
 
 pub release-start-spec : {M : Type 1} → statement M
 release-start-spec =
-    tie.close (tie.spec nearest-u32-to-f32-requires frame-time-requires max-f32-requires returns)
+    tie.close (tie.spec (λ c κs. search needs) (λ c κs. search needs) (λ c κs. search needs) returns)

@@ -16,48 +16,26 @@ Inv-loop out₀ note env len rate gain srf rel-start i₀ out i = Updated (gaine
 abbrev μ-loop : tie.MeasureT-loop
 μ-loop out₀ note env len rate gain srf rel-start i₀ out i = length note - i
 
-nearest-u32-to-f32-requires : tie.Need-nearest-u32-to-f32-requires Inv-loop μ-loop
-nearest-u32-to-f32-requires c κs = search needs
-
-release-start-requires : tie.Need-release-start-requires Inv-loop μ-loop
-release-start-requires c κs = search needs
-
 loop-holds : tie.Need-loop-holds Inv-loop μ-loop
 loop-holds c = (updated-none, omega arith)
-
-frame-time-requires : tie.Need-frame-time-requires Inv-loop μ-loop
-frame-time-requires c κs = search needs
-
-adsr-env-requires : tie.Need-adsr-env-requires Inv-loop μ-loop
-adsr-env-requires c κs = search needs
-
-mul-out : tie.Need-mul-out Inv-loop μ-loop
-mul-out c = search needs
 
 slice-read-out : tie.Need-slice-read-out Inv-loop μ-loop
 slice-read-out c = omega (arith, updated-kept (c .before .before .before .before .loop .inv .0))
 
-mul-out-2 : tie.Need-mul-out-2 Inv-loop μ-loop
-mul-out-2 c = search needs
-
-shared-slice-read-out : tie.Need-shared-slice-read-out Inv-loop μ-loop
-shared-slice-read-out c = search needs
-
-mul-out-3 : tie.Need-mul-out-3 Inv-loop μ-loop
-mul-out-3 c = search needs
-
 slice-write-out : tie.Need-slice-write-out Inv-loop μ-loop
 slice-write-out c = omega (arith, updated-kept (c .before .before .before .before .before .loop .inv .0))
 
-add-i : tie.Need-add-i Inv-loop μ-loop
-add-i c = search needs
-
-loop-less : tie.Need-loop-less Inv-loop μ-loop
-loop-less c = omega arith
-
 loop-again : tie.Need-loop-again Inv-loop μ-loop
 unfolding adsrAt
-loop-again c = (updated-more (c .before .before .before .before .before .loop .inv .0) nan (rw (c .before .before .adsr-env .ensures, c .before .before .before .frame-time .ensures, c .before .before .before .before .before .before .release-start .ensures, c .before .before .before .before .before .before .before .nearest-u32-to-f32 .ensures)), omega arith)
+loop-again c = (
+  updated-more (c .before .before .before .before .before .loop .inv .0) nan (rw (
+    c .before .before .adsr-env .ensures,
+    c .before .before .before .frame-time .ensures,
+    c .before .before .before .before .before .before .release-start .ensures,
+    c .before .before .before .before .before .before .before .nearest-u32-to-f32 .ensures,
+  )),
+  omega arith,
+)
 
 same-length : tie.Need-same-length Inv-loop μ-loop
 same-length c = updated-kept (c .before .loop .inv .0)
@@ -72,19 +50,19 @@ mix-spec =
     (tie.spec
     Inv-loop
     μ-loop
-    nearest-u32-to-f32-requires
-    release-start-requires
+    (λ c κs. search needs)
+    (λ c κs. search needs)
     loop-holds
-    frame-time-requires
-    adsr-env-requires
-    mul-out
+    (λ c κs. search needs)
+    (λ c κs. search needs)
+    (λ c. search needs)
     slice-read-out
-    mul-out-2
-    shared-slice-read-out
-    mul-out-3
+    (λ c. search needs)
+    (λ c. search needs)
+    (λ c. search needs)
     slice-write-out
-    add-i
-    loop-less
+    (λ c. search needs)
+    (λ c. omega arith)
     loop-again
     same-length
     returns)

@@ -6,21 +6,6 @@ use borrow.Author.Needs.{needs}
 use Rattle.osc.proofs.osc.Statement.{statement}
 use Rattle.osc.proofs.osc.Tie as tie
 
-enum-told : tie.Need-enum-told
-enum-told c = search needs
-
-sin-requires : tie.Need-sin-requires
-sin-requires c κs = search needs
-
-enum-told-2 : tie.Need-enum-told-2
-enum-told-2 c = search needs
-
-enum-told-3 : tie.Need-enum-told-3
-enum-told-3 c = search needs
-
-enum-told-4 : tie.Need-enum-told-4
-enum-told-4 c = search needs
-
 returns : tie.Need-returns
 unfolding oscOf
 returns c = rw (c .before .enum-told .given .1) (c .sin .ensures)
@@ -49,11 +34,11 @@ pub osc-spec : {M : Type 1} → statement M
 osc-spec =
     tie.close
     (tie.spec
-    enum-told
-    sin-requires
-    enum-told-2
-    enum-told-3
-    enum-told-4
+    (λ c. search needs)
+    (λ c κs. search needs)
+    (λ c. search needs)
+    (λ c. search needs)
+    (λ c. search needs)
     returns
     returns-2
     returns-3

@@ -3,11 +3,8 @@ use borrow.Author.Needs.{needs}
 use Rattle.osc.proofs.saw.Statement.{statement}
 use Rattle.osc.proofs.saw.Tie as tie
 
-poly-blep-requires : tie.Need-poly-blep-requires
-poly-blep-requires c κs = search needs
-
 returns : tie.Need-returns
 returns c = rw (c .poly-blep .ensures)
 
 pub saw-spec : {M : Type 1} → statement M
-saw-spec = tie.close (tie.spec poly-blep-requires returns)
+saw-spec = tie.close (tie.spec (λ c κs. search needs) returns)

@@ -13,11 +13,8 @@ returns c = let x = c .before .before .args .phase in ap (λ (n : Float). x ⊖ 
 returns-2 : tie.Need-returns-2
 returns-2 c = let x = c .before .before .args .phase in ap (λ (n : Float). x ⊖ n) (floor-one x (c .before .if1 .left) (c .if3 .taken))
 
-floor-f32-requires : tie.Need-floor-f32-requires
-floor-f32-requires c κs = search needs
-
 returns-3 : tie.Need-returns-3
 returns-3 c = rw (c .floor-f32 .ensures)
 
 pub wrap-spec : {M : Type 1} → statement M
-wrap-spec = tie.close (tie.spec returns returns-2 floor-f32-requires returns-3)
+wrap-spec = tie.close (tie.spec returns returns-2 (λ c κs. search needs) returns-3)

@@ -1,5 +1,6 @@
 -- `tono::tono_play` meets its contract. Assumes nothing.
 use Prim.Native.Nat.{ℕ, _≤_}
+use mathlib.Core.Path.{refl}
 use native.Mathlib.Omega.{arith}
 use borrow.Author.Needs.{sfits-of}
 use mir.Facts.{toZ-ofZ}
@@ -8,7 +9,8 @@ use mir.Syntax.{w64}
 use lib.ListN.{length}
 use lib.IntN.{pos}
 use Rattle.text.proofs.Replying.{length-within}
-use Rattle.tono.proofs.Returning.{returned-length, returned-short}
+use Rattle.text.specs.declared.call.Reply.the-variants.{Listing, Short}
+use Rattle.tono.proofs.Returning.{returned}
 use borrow.Author.Needs.{needs}
 use Rattle.tono.proofs.tono_play.Statement.{statement}
 use Rattle.tono.proofs.tono_play.Tie as tie
@@ -17,39 +19,31 @@ use Rattle.tono.proofs.tono_play.Tie as tie
 length-fits : (c : tie.Start) (n : ℕ) → n ≤ length (c .args .reply .now) → SFits w64 (pos n)
 length-fits c n h = sfits-of (omega arith)
 
-play-text-requires : tie.Need-play-text-requires
-play-text-requires c κs = search needs
-
-enum-known-length : tie.Need-enum-known-length
-enum-known-length c = search needs
-
 cast-result : tie.Need-cast-result
-cast-result c = length-fits (c .before .before .before .before .before .before .before .before .before) _ (length-within (c .before .before .before .before .before .play-text .ensures) _ (c .before .length .given .1))
-
-enum-told : tie.Need-enum-told
-enum-told c = search needs
-
-same-length : tie.Need-same-length
-same-length c = search needs
+cast-result c =
+    let b5 = c .before .before .before .before .before in
+    let within = length-within (b5 .play-text .ensures) _ (c .before .length .given .1) in
+    sfits-of (omega (arith, within))
 
 returns : tie.Need-returns
-returns c = returned-length (c .before .before .before .before .before .play-text .ensures) _ (c .before .length .given .1) _ (toZ-ofZ (length-fits (c .before .before .before .before .before .before .before .before .before) _ (length-within (c .before .before .before .before .before .play-text .ensures) _ (c .before .length .given .1))))
-
-same-length-2 : tie.Need-same-length-2
-same-length-2 c = search needs
+returns c =
+    let b5 = c .before .before .before .before .before in
+    let told = c .before .length .given .1 in
+    let fits = length-fits (b5 .before .before .before .before) _ (length-within (b5 .play-text .ensures) _ told) in
+    returned (Listing _) (b5 .play-text .ensures) told (toZ-ofZ fits)
 
 returns-2 : tie.Need-returns-2
-returns-2 c = returned-short (c .before .before .before .before .play-text .ensures) (c .enum-told .given .1)
+returns-2 c = returned Short (c .before .before .before .before .play-text .ensures) (c .enum-told .given .1) refl
 
 pub tono-play-spec : {M : Type 1} → statement M
 tono-play-spec =
     tie.close
     (tie.spec
-    play-text-requires
-    enum-known-length
+    (λ c κs. search needs)
+    (λ c. search needs)
     cast-result
-    enum-told
-    same-length
+    (λ c. search needs)
+    (λ c. search needs)
     returns
-    same-length-2
+    (λ c. search needs)
     returns-2)

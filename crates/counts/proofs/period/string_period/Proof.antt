@@ -1,4 +1,4 @@
--- `counts::period::string_period` meets its contract: on the domain the clamp's upper bound is rate / 2. Assumes nothing.
+-- `counts::period::string_period` meets its contract: each call by what it ensures. Assumes nothing.
 use borrow.Author.Needs.{needs}
 use mathlib.Core.Path.{_≡_, ap, _∙_}
 use native.Mathlib.Omega.{arith}
@@ -9,7 +9,6 @@ use Rattle.ieee.specs.Binary32.{_⊘_}
 use Rattle.ieee.specs.Order.{clampOf}
 use Rattle.ieee.specs.Whole.{roundOf}
 use Rattle.counts.specs.Period.{periodOf}
-use Rattle.counts.proofs.Periods.{highest-is}
 use Rattle.counts.proofs.period.string_period.Statement.{statement}
 use Rattle.counts.proofs.period.string_period.Tie as tie
 
@@ -20,34 +19,17 @@ high : (k : ℕ) → 2 ≤ k → k ≡ max k 2
 high k h = omega arith
 
 -- the period before the lower bound
-rounded : (c : tie.After-f32-to-usize)
-    → c .f32-to-usize .result
-    ≡ toUnsigned 64 (roundOf (f32 (c .before .before .before .before .before .args .rate)
-    ⊘ clampOf (c .before .before .before .before .before .args .first) c20 (f32 (c .before .before .before .before .before .args .rate) ⊘ c2)))
+rounded :
+    (c : tie.After-f32-to-usize) →
+    let a = c .before .before .before .before .args in
+    c .f32-to-usize .result ≡ toUnsigned 64 (roundOf (f32 (a .rate) ⊘ clampOf (a .first) c20 (f32 (a .rate) ⊘ c2)))
 rounded c =
     rw (
       c .f32-to-usize .ensures,
       c .before .round-f32 .ensures,
       c .before .before .clamp-f32 .ensures,
-      c .before .before .before .max-f32 .ensures,
-      c .before .before .before .before .nearest-u32-to-f32 .ensures,
-      highest-is (c .before .before .before .before .before .args .rate) (c .before .before .before .before .before .pre),
+      c .before .before .before .nearest-u32-to-f32 .ensures,
     )
-
-nearest-u32-to-f32-requires : tie.Need-nearest-u32-to-f32-requires
-nearest-u32-to-f32-requires c κs = search needs
-
-max-f32-requires : tie.Need-max-f32-requires
-max-f32-requires c κs = search needs
-
-clamp-f32-requires : tie.Need-clamp-f32-requires
-clamp-f32-requires c κs = search needs
-
-round-f32-requires : tie.Need-round-f32-requires
-round-f32-requires c κs = search needs
-
-f32-to-usize-requires : tie.Need-f32-to-usize-requires
-f32-to-usize-requires c κs = search needs
 
 returns : tie.Need-returns
 unfolding periodOf
@@ -61,10 +43,9 @@ pub string-period-spec : {M : Type 1} → statement M
 string-period-spec =
     tie.close
     (tie.spec
-    nearest-u32-to-f32-requires
-    max-f32-requires
-    clamp-f32-requires
-    round-f32-requires
-    f32-to-usize-requires
+    (λ c κs. search needs)
+    (λ c κs. search needs)
+    (λ c κs. search needs)
+    (λ c κs. search needs)
     returns
     returns-2)

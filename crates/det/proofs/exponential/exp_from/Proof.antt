@@ -5,15 +5,9 @@ use Rattle.float.proofs.Signed.{back}
 use Rattle.det.proofs.exponential.exp_from.Statement.{statement}
 use Rattle.det.proofs.exponential.exp_from.Tie as tie
 
-rounded-to-i64-requires : tie.Need-rounded-to-i64-requires
-rounded-to-i64-requires c κs = search needs
-
-ldexp2-requires : tie.Need-ldexp2-requires
-ldexp2-requires c κs = search needs
-
 returns : tie.Need-returns
 unfolding expFrom
 returns c = let d = c .before in rw (c .ldexp2 .ensures, back (d .rounded-to-i64 .result) (d .rounded-to-i64 .ok), d .rounded-to-i64 .ensures)
 
 pub exp-from-spec : {M : Type 1} → statement M
-exp-from-spec = tie.close (tie.spec rounded-to-i64-requires ldexp2-requires returns)
+exp-from-spec = tie.close (tie.spec (λ c κs. search needs) (λ c κs. search needs) returns)

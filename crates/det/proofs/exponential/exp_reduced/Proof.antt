@@ -3,18 +3,18 @@ use borrow.Author.Needs.{needs}
 use mathlib.Core.Path.{_≡_, sym, ap, _∙_, subst}
 use lib.Dec.{T}
 use lib.Ieee.{Float, neg}
-use Rattle.ieee.specs.Binary64.{_⊗_}
+use Rattle.ieee.specs.Binary64.{_⊠_}
 use Rattle.ieee.specs.Whole.{roundOf}
-use Rattle.float.specs.Rounded.{noFraction}
+use Rattle.det.specs.Rounded.{noFraction}
 use Rattle.float.proofs.Signs.{near-whole, near-whole-mirrored}
-use Rattle.float.proofs.Casts.{round-whole}
+use Rattle.det.proofs.Casts.{round-whole}
 use Rattle.det.specs.Exp.{INV·LN2, expFrom, expReduced}
 use Rattle.det.proofs.exponential.exp_reduced.Statement.{statement}
 use Rattle.det.proofs.exponential.exp_reduced.Tie as tie
 
 -- x / ln 2
 abbrev quotient : Float → Float
-quotient x = x ⊗ INV·LN2
+quotient x = x ⊠ INV·LN2
 
 -- what is given is that number rounded, above zero and below it
 above : (c : tie.After-known-told) → c .before .above .given .0 .0 ≡ roundOf (quotient (c .before .before .before .before .args .x))
@@ -25,12 +25,6 @@ below c =
     let d = c .before .before .before in
     near-whole-mirrored (quotient (d .before .before .before .before .args .x)) (d .near-f642 .result) (c .before .below .given .0 .0) (d .near-f642 .ensures) (c .before .below .given .1)
 
-near-f64-requires : tie.Need-near-f64-requires
-near-f64-requires c κs = search needs
-
-enum-known-above : tie.Need-enum-known-above
-enum-known-above c = search needs
-
 exp-from-requires : tie.Need-exp-from-requires
 exp-from-requires c κs = subst (λ (k : Float). T (noFraction k)) (sym (above c)) (round-whole _)
 
@@ -38,27 +32,12 @@ returns : tie.Need-returns
 unfolding expReduced
 returns c = c .exp-from .ensures ∙ ap (expFrom (c .before .before .before .before .before .args .x)) (above (c .before))
 
-enum-told : tie.Need-enum-told
-enum-told c = search needs
-
-near-f64-requires-2 : tie.Need-near-f64-requires-2
-near-f64-requires-2 c κs = search needs
-
-enum-known-below : tie.Need-enum-known-below
-enum-known-below c = search needs
-
 exp-from-requires-2 : tie.Need-exp-from-requires-2
 exp-from-requires-2 c κs = subst (λ (k : Float). T (noFraction k)) (sym (below c)) (round-whole _)
 
 returns-2 : tie.Need-returns-2
 unfolding expReduced
 returns-2 c = c .exp-from2 .ensures ∙ ap (expFrom (c .before .before .before .before .before .before .before .before .args .x)) (below (c .before))
-
-enum-told-2 : tie.Need-enum-told-2
-enum-told-2 c = search needs
-
-round-f64-requires : tie.Need-round-f64-requires
-round-f64-requires c κs = search needs
 
 exp-from-requires-3 : tie.Need-exp-from-requires-3
 exp-from-requires-3 c κs = (rw (c .round-f64 .ensures) (round-whole _))
@@ -71,16 +50,16 @@ pub exp-reduced-spec : {M : Type 1} → statement M
 exp-reduced-spec =
     tie.close
     (tie.spec
-    near-f64-requires
-    enum-known-above
+    (λ c κs. search needs)
+    (λ c. search needs)
     exp-from-requires
     returns
-    enum-told
-    near-f64-requires-2
-    enum-known-below
+    (λ c. search needs)
+    (λ c κs. search needs)
+    (λ c. search needs)
     exp-from-requires-2
     returns-2
-    enum-told-2
-    round-f64-requires
+    (λ c. search needs)
+    (λ c κs. search needs)
     exp-from-requires-3
     returns-3)

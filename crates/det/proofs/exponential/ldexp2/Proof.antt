@@ -34,9 +34,6 @@ high c = normal (read (c .before .before .args .k)) (c .before .if1 .left) (c .i
 abbrev field : tie.Else2 → ℕ
 field c = natAbs (read (read (c .before .before .args .k) +ℤ pos 1023))
 
-infinity-requires : tie.Need-infinity-requires
-infinity-requires c κs = search needs
-
 returns : tie.Need-returns
 unfolding ldexp2Of
 returns c = if-true _ (c .before .if1 .taken) (c .infinity .ensures) ∙ ap ldexp2Of (back (c .before .before .args .k) (c .before .before .fits .k .sfits))
@@ -89,7 +86,7 @@ pub ldexp2-spec : {M : Type 1} → statement M
 ldexp2-spec =
     tie.close
     (tie.spec
-    infinity-requires
+    (λ c κs. search needs)
     returns
     returns-2
     add-result

@@ -2,29 +2,17 @@
 use borrow.Author.Needs.{needs}
 use mathlib.Core.Path.{sym, _∙_}
 use Rattle.laws.proofs.If.{if-true, if-false}
-use Rattle.det.specs.Tanh.{tanhOf}
+use Rattle.det.specs.Tanh.{tanh64}
 use Rattle.ieee.proofs.Nans.{ne-self}
 use Rattle.det.proofs.hyperbolic.tanh.Statement.{statement}
 use Rattle.det.proofs.hyperbolic.tanh.Tie as tie
 
-not-a-number-requires : tie.Need-not-a-number-requires
-not-a-number-requires c κs = search needs
-
 returns : tie.Need-returns
-unfolding tanhOf
+unfolding tanh64
 returns c = if-true _ (sym (ne-self (c .before .before .args .x)) ∙ c .before .if1 .taken) (c .not-a-number .ensures)
 
-magnitude-requires : tie.Need-magnitude-requires
-magnitude-requires c κs = search needs
-
-unit-sign-requires : tie.Need-unit-sign-requires
-unit-sign-requires c κs = search needs
-
-tanh-signed-requires : tie.Need-tanh-signed-requires
-tanh-signed-requires c κs = search needs
-
 returns-2 : tie.Need-returns-2
-unfolding tanhOf
+unfolding tanh64
 returns-2 c =
     let d = c .before .before .before in
     if-false _ (sym (ne-self (d .before .args .x)) ∙ d .if1 .left)
@@ -34,9 +22,9 @@ pub tanh-spec : {M : Type 1} → statement M
 tanh-spec =
     tie.close
     (tie.spec
-    not-a-number-requires
+    (λ c κs. search needs)
     returns
-    magnitude-requires
-    unit-sign-requires
-    tanh-signed-requires
+    (λ c κs. search needs)
+    (λ c κs. search needs)
+    (λ c κs. search needs)
     returns-2)

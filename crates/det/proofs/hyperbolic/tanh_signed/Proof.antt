@@ -10,15 +10,9 @@ returns : tie.Need-returns
 unfolding tanhSigned
 returns c = if-true _ (c .if1 .taken) refl
 
-expm1-small-requires : tie.Need-expm1-small-requires
-expm1-small-requires c κs = search needs
-
 returns-2 : tie.Need-returns-2
 unfolding tanhSigned
 returns-2 c = if-false _ (c .before .before .if1 .left) (if-true _ (c .before .if2 .taken) (rw (c .expm1-small .ensures)))
-
-exp-requires : tie.Need-exp-requires
-exp-requires c κs = search needs
 
 returns-3 : tie.Need-returns-3
 unfolding tanhSigned
@@ -26,4 +20,4 @@ returns-3 c = if-false _ (c .before .before .if1 .left) (if-false _ (c .before .
 
 pub tanh-signed-spec : {M : Type 1} → statement M
 tanh-signed-spec =
-    tie.close (tie.spec returns expm1-small-requires returns-2 exp-requires returns-3)
+    tie.close (tie.spec returns (λ c κs. search needs) returns-2 (λ c κs. search needs) returns-3)

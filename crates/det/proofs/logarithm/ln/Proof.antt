@@ -3,33 +3,24 @@ use borrow.Author.Needs.{needs}
 use mathlib.Core.Path.{sym, ap, _∙_}
 use lib.Ieee.{neg}
 use Rattle.laws.proofs.If.{if-true, if-false}
-use Rattle.det.specs.Ln.{lnOf}
+use Rattle.det.specs.Ln.{ln64}
 use Rattle.ieee.proofs.Nans.{ne-self, no-nan}
 use Rattle.det.proofs.Numbers.{scaled-number}
 use Rattle.det.proofs.logarithm.ln.Statement.{statement}
 use Rattle.det.proofs.logarithm.ln.Tie as tie
 
-not-a-number-requires : tie.Need-not-a-number-requires
-not-a-number-requires c κs = search needs
-
 returns : tie.Need-returns
-unfolding lnOf
+unfolding ln64
 returns c = if-true _ (sym (ne-self (c .before .before .args .x)) ∙ c .before .if1 .taken) (c .not-a-number .ensures)
 
-not-a-number-requires-2 : tie.Need-not-a-number-requires-2
-not-a-number-requires-2 c κs = search needs
-
 returns-2 : tie.Need-returns-2
-unfolding lnOf
+unfolding ln64
 returns-2 c =
     let d = c .before .before in
     if-false _ (sym (ne-self (d .before .args .x)) ∙ d .if1 .left) (if-true _ (c .before .if2 .taken) (c .not-a-number2 .ensures))
 
-infinity-requires : tie.Need-infinity-requires
-infinity-requires c κs = search needs
-
 returns-3 : tie.Need-returns-3
-unfolding lnOf neg
+unfolding ln64 neg
 returns-3 c =
     let d = c .before .before .before in
     if-false _ (sym (ne-self (d .before .args .x)) ∙ d .if1 .left)
@@ -42,7 +33,7 @@ ln-split-requires c κs =
     scaled-number (d .before .args .x) (no-nan (d .before .args .x) (d .if1 .left))
 
 returns-4 : tie.Need-returns-4
-unfolding lnOf
+unfolding ln64
 returns-4 c =
     let d = c .before .before .before .before in
     if-false _ (sym (ne-self (d .before .args .x)) ∙ d .if1 .left)
@@ -54,7 +45,7 @@ ln-split-requires-2 : tie.Need-ln-split-requires-2
 ln-split-requires-2 c κs = no-nan (c .before .before .before .before .args .x) (c .before .before .before .if1 .left)
 
 returns-5 : tie.Need-returns-5
-unfolding lnOf
+unfolding ln64
 returns-5 c =
     let d = c .before .before .before .before in
     if-false _ (sym (ne-self (d .before .args .x)) ∙ d .if1 .left)
@@ -66,11 +57,11 @@ pub ln-spec : {M : Type 1} → statement M
 ln-spec =
     tie.close
     (tie.spec
-    not-a-number-requires
+    (λ c κs. search needs)
     returns
-    not-a-number-requires-2
+    (λ c κs. search needs)
     returns-2
-    infinity-requires
+    (λ c κs. search needs)
     returns-3
     ln-split-requires
     returns-4

@@ -3,7 +3,7 @@ use native.Mathlib.Nat.{lt-trans}
 use lib.Dec.{lit<}
 use Rattle.det.specs.Ln.{lnSeries}
 use Rattle.float.proofs.Signed.{back}
-use Rattle.float.proofs.Casts.{in-float}
+use Rattle.det.proofs.Casts.{in-float}
 use Rattle.det.proofs.logarithm.ln_series.Statement.{statement}
 use Rattle.det.proofs.logarithm.ln_series.Tie as tie
 

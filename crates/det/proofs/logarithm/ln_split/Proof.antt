@@ -33,9 +33,6 @@ sub-exp-bits c = exponent-fits (field (c .args .x)) (small (c .args .x))
 float-from-bits-mant : tie.Need-float-from-bits-mant
 float-from-bits-mant c = mantissa-number (toBits binary64 (c .args .x))
 
-fold-mant-requires : tie.Need-fold-mant-requires
-fold-mant-requires c κs = search needs
-
 fold-exp-requires : tie.Need-fold-exp-requires
 fold-exp-requires c κs = exponent-small (field (c .before .args .x)) (small (c .before .args .x))
 
@@ -59,7 +56,7 @@ ln-split-spec =
     cast-exp-bits
     sub-exp-bits
     float-from-bits-mant
-    fold-mant-requires
+    (λ c κs. search needs)
     fold-exp-requires
     ln-series-requires
     returns)

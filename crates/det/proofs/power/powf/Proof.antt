@@ -2,46 +2,34 @@
 use borrow.Author.Needs.{needs}
 use mathlib.Core.Path.{refl}
 use Rattle.laws.proofs.If.{if-true, if-false}
-use Rattle.det.specs.Pow.{powfOf}
+use Rattle.det.specs.Pow.{powf64}
 use Rattle.det.proofs.power.powf.Statement.{statement}
 use Rattle.det.proofs.power.powf.Tie as tie
 
 returns : tie.Need-returns
-unfolding powfOf
+unfolding powf64
 returns c = if-true _ (c .if1 .taken) refl
 
 returns-2 : tie.Need-returns-2
-unfolding powfOf
+unfolding powf64
 returns-2 c = if-false _ (c .before .before .if1 .left) (if-true _ (c .before .if2 .taken) (if-true _ (c .if3 .taken) refl))
 
-infinity-requires : tie.Need-infinity-requires
-infinity-requires c κs = search needs
-
 returns-3 : tie.Need-returns-3
-unfolding powfOf
+unfolding powf64
 returns-3 c =
     if-false _ (c .before .before .before .if1 .left)
     (if-true _ (c .before .before .if2 .taken)
     (if-false _ (c .before .if3 .left) (c .infinity .ensures)))
 
-not-a-number-requires : tie.Need-not-a-number-requires
-not-a-number-requires c κs = search needs
-
 returns-4 : tie.Need-returns-4
-unfolding powfOf
+unfolding powf64
 returns-4 c =
     if-false _ (c .before .before .before .if1 .left)
     (if-false _ (c .before .before .if2 .left)
     (if-true _ (c .before .if4 .taken) (c .not-a-number .ensures)))
 
-ln-requires : tie.Need-ln-requires
-ln-requires c κs = search needs
-
-exp-requires : tie.Need-exp-requires
-exp-requires c κs = search needs
-
 returns-5 : tie.Need-returns-5
-unfolding powfOf
+unfolding powf64
 returns-5 c =
     if-false _ (c .before .before .before .before .if1 .left)
     (if-false _ (c .before .before .before .if2 .left)
@@ -54,10 +42,10 @@ powf-spec =
     (tie.spec
     returns
     returns-2
-    infinity-requires
+    (λ c κs. search needs)
     returns-3
-    not-a-number-requires
+    (λ c κs. search needs)
     returns-4
-    ln-requires
-    exp-requires
+    (λ c κs. search needs)
+    (λ c κs. search needs)
     returns-5)

@@ -19,21 +19,6 @@ abbrev μ-loop : tie.MeasureT-loop
 loop-holds : tie.Need-loop-holds Inv-loop μ-loop
 loop-holds c = (refl, omega arith)
 
-mul-is-sized : tie.Need-mul-is-sized Inv-loop μ-loop
-mul-is-sized c = search needs
-
-shared-slice-read-is-sized : tie.Need-shared-slice-read-is-sized Inv-loop μ-loop
-shared-slice-read-is-sized c = search needs
-
-is-sized-requires : tie.Need-is-sized-requires Inv-loop μ-loop
-is-sized-requires c κs = search needs
-
-add-i : tie.Need-add-i Inv-loop μ-loop
-add-i c = search needs
-
-loop-less : tie.Need-loop-less Inv-loop μ-loop
-loop-less c = omega arith
-
 loop-again : tie.Need-loop-again Inv-loop μ-loop
 loop-again c =
     let at = c .before .before .before .loop in
@@ -49,10 +34,10 @@ all-sized-spec =
     Inv-loop
     μ-loop
     loop-holds
-    mul-is-sized
-    shared-slice-read-is-sized
-    is-sized-requires
-    add-i
-    loop-less
+    (λ c. search needs)
+    (λ c. search needs)
+    (λ c κs. search needs)
+    (λ c. search needs)
+    (λ c. omega arith)
     loop-again
     returns)

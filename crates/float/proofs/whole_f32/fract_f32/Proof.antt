@@ -5,11 +5,8 @@ use lib.Ieee.{Float, binary32, sub}
 use Rattle.float.proofs.whole_f32.fract_f32.Statement.{statement}
 use Rattle.float.proofs.whole_f32.fract_f32.Tie as tie
 
-trunc-f32-requires : tie.Need-trunc-f32-requires
-trunc-f32-requires c κs = search needs
-
 returns : tie.Need-returns
 returns c = ap (λ (y : Float). sub binary32 (c .before .args .x) y) (c .trunc-f32 .ensures)
 
 pub fract-f32-spec : {M : Type 1} → statement M
-fract-f32-spec = tie.close (tie.spec trunc-f32-requires returns)
+fract-f32-spec = tie.close (tie.spec (λ c κs. search needs) returns)

@@ -6,9 +6,6 @@ use Rattle.float.proofs.Wholes.{parts, raised-taken, raised-left}
 use Rattle.float.proofs.whole_f32.raised_f32.Statement.{statement}
 use Rattle.float.proofs.whole_f32.raised_f32.Tie as tie
 
-nearest-f32-requires : tie.Need-nearest-f32-requires
-nearest-f32-requires c κs = search needs
-
 returns : tie.Need-returns
 unfolding ofBits
 returns c =
@@ -22,4 +19,4 @@ returns-2 c =
     raised-left (parts binary32 (d .args .a) (d .pre)) (passes _ (d .good .0 .1)) (c .before .nearest-f32 .result) (c .before .nearest-f32 .ensures) (c .if1 .left)
 
 pub raised-f32-spec : {M : Type 1} → statement M
-raised-f32-spec = tie.close (tie.spec nearest-f32-requires returns returns-2)
+raised-f32-spec = tie.close (tie.spec (λ c κs. search needs) returns returns-2)

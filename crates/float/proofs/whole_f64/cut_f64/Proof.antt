@@ -6,9 +6,6 @@ use Rattle.float.proofs.Wholes.{parts, cut-taken, cut-left}
 use Rattle.float.proofs.whole_f64.cut_f64.Statement.{statement}
 use Rattle.float.proofs.whole_f64.cut_f64.Tie as tie
 
-nearest-f64-requires : tie.Need-nearest-f64-requires
-nearest-f64-requires c κs = search needs
-
 returns : tie.Need-returns
 unfolding ofBits
 returns c =
@@ -22,4 +19,4 @@ returns-2 c =
     cut-left (parts binary64 (d .args .a) (d .pre)) (passes _ (d .good .0 .1)) (c .before .nearest-f64 .result) (c .before .nearest-f64 .ensures) (c .if1 .left)
 
 pub cut-f64-spec : {M : Type 1} → statement M
-cut-f64-spec = tie.close (tie.spec nearest-f64-requires returns returns-2)
+cut-f64-spec = tie.close (tie.spec (λ c κs. search needs) returns returns-2)

@@ -12,9 +12,6 @@ cut-f64-requires : tie.Need-cut-f64-requires
 unfolding ofBits
 cut-f64-requires c κs = record { positive = c .before .if1 .taken; below = c .if2 .taken }
 
-returns : tie.Need-returns
-returns c = search needs
-
 returns-2 : tie.Need-returns-2
 unfolding ofBits
 returns-2 c = let d = c .before .before in large binary64 cut (d .args .x) (passes _ (d .good .0 .1)) (c .before .if1 .taken) (c .if2 .left)
@@ -37,4 +34,4 @@ returns-5 c = let d = c .before .before in neither binary64 cut (d .args .x) (pa
 pub trunc-f64-spec : {M : Type 1} → statement M
 trunc-f64-spec =
     tie.close
-    (tie.spec cut-f64-requires returns returns-2 cut-f64-requires-2 returns-3 returns-4 returns-5)
+    (tie.spec cut-f64-requires (λ c. search needs) returns-2 cut-f64-requires-2 returns-3 returns-4 returns-5)

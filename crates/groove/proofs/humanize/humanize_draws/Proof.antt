@@ -4,22 +4,17 @@ use Rattle.groove.specs.Humanize.{humanizeDraws}
 use Rattle.groove.proofs.humanize.humanize_draws.Statement.{statement}
 use Rattle.groove.proofs.humanize.humanize_draws.Tie as tie
 
-humanize-seed-requires : tie.Need-humanize-seed-requires
-humanize-seed-requires c κs = search needs
-
-new-requires : tie.Need-new-requires
-new-requires c κs = search needs
-
-bi-requires : tie.Need-bi-requires
-bi-requires c κs = search needs
-
-bi-requires-2 : tie.Need-bi-requires-2
-bi-requires-2 c κs = search needs
-
 returns : tie.Need-returns
 unfolding humanizeDraws
-returns c = rw (c .bi2 .ensures .0, c .before .before .bi .ensures .0, c .before .before .bi .ensures .1, c .before .before .before .new .ensures, c .before .before .before .before .humanize-seed .ensures)
+returns c =
+    rw (
+      c .bi2 .ensures .0,
+      c .before .before .bi .ensures .0,
+      c .before .before .bi .ensures .1,
+      c .before .before .before .new .ensures,
+      c .before .before .before .before .humanize-seed .ensures,
+    )
 
 pub humanize-draws-spec : {M : Type 1} → statement M
 humanize-draws-spec =
-    tie.close (tie.spec humanize-seed-requires new-requires bi-requires bi-requires-2 returns)
+    tie.close (tie.spec (λ c κs. search needs) (λ c κs. search needs) (λ c κs. search needs) (λ c κs. search needs) returns)

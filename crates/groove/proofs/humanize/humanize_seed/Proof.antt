@@ -8,18 +8,6 @@ use Rattle.groove.specs.Humanize.{seedOf}
 use Rattle.groove.proofs.humanize.humanize_seed.Statement.{statement}
 use Rattle.groove.proofs.humanize.humanize_seed.Tie as tie
 
-pitch-identity-requires : tie.Need-pitch-identity-requires
-pitch-identity-requires c κs = search needs
-
-rotate-left-requires : tie.Need-rotate-left-requires
-rotate-left-requires c κs = search needs
-
-cast-result : tie.Need-cast-result
-cast-result c = search needs
-
-cast-result-2 : tie.Need-cast-result-2
-cast-result-2 c = search needs
-
 returns : tie.Need-returns
 unfolding seedOf
 returns c =
@@ -31,4 +19,4 @@ returns c =
 pub humanize-seed-spec : {M : Type 1} → statement M
 humanize-seed-spec =
     tie.close
-    (tie.spec pitch-identity-requires rotate-left-requires cast-result cast-result-2 returns)
+    (tie.spec (λ c κs. search needs) (λ c κs. search needs) (λ c. search needs) (λ c. search needs) returns)

@@ -9,17 +9,11 @@ use Rattle.groove.specs.Humanize.{identityOf}
 use Rattle.groove.proofs.humanize.pitch_identity.Statement.{statement}
 use Rattle.groove.proofs.humanize.pitch_identity.Tie as tie
 
-enum-known-pitch : tie.Need-enum-known-pitch
-enum-known-pitch c = search needs
-
 float-to-bits-result : tie.Need-float-to-bits-result
 float-to-bits-result c = rw (c .before .pitch .given .1) at (c .before .before .before .pre)
 
 cast-result : tie.Need-cast-result
 cast-result c = record { fits = lt-trans (toBits-lt binary32 _ (passes _ (c .known-told .given .0 .1))) (lit< tt) }
-
-enum-told : tie.Need-enum-told
-enum-told c = search needs
 
 returns : tie.Need-returns
 unfolding identityOf
@@ -32,4 +26,4 @@ returns-2 c = rw (c .enum-told .given .1)
 pub pitch-identity-spec : {M : Type 1} → statement M
 pitch-identity-spec =
     tie.close
-    (tie.spec enum-known-pitch float-to-bits-result cast-result enum-told returns returns-2)
+    (tie.spec (λ c. search needs) float-to-bits-result cast-result (λ c. search needs) returns returns-2)

@@ -19,22 +19,15 @@ high : (k : ℕ) → 1 ≤ k → k ≡ max k 1
 high k h = omega arith
 
 -- the frames before the lower bound
-frames : (c : tie.After-f32-to-usize)
-    → c .f32-to-usize .result ≡ toUnsigned 64 (minOf (f32 (c .before .before .before .before .args .len) ⊗ c .before .before .before .before .args .step-dur) (f32 (c .before .before .before .before .args .n)))
+frames :
+    (c : tie.After-f32-to-usize) →
+    let a = c .before .before .before .before .args in
+    c .f32-to-usize .result ≡ toUnsigned 64 (minOf (f32 (a .len) ⊗ a .step-dur) (f32 (a .n)))
 frames c = rw (c .f32-to-usize .ensures, c .before .min-f32 .ensures, c .before .before .before .nearest-u32-to-f32 .ensures)
-
-nearest-u32-to-f32-requires : tie.Need-nearest-u32-to-f32-requires
-nearest-u32-to-f32-requires c κs = search needs
 
 int-to-float-min-f32 : tie.Need-int-to-float-min-f32
 unfolding inFloat
 int-to-float-min-f32 c = le→leb _ _ (c .before .before .pre .most)
-
-min-f32-requires : tie.Need-min-f32-requires
-min-f32-requires c κs = search needs
-
-f32-to-usize-requires : tie.Need-f32-to-usize-requires
-f32-to-usize-requires c κs = search needs
 
 returns : tie.Need-returns
 unfolding lengthOf
@@ -48,9 +41,9 @@ pub note-len-spec : {M : Type 1} → statement M
 note-len-spec =
     tie.close
     (tie.spec
-    nearest-u32-to-f32-requires
+    (λ c κs. search needs)
     int-to-float-min-f32
-    min-f32-requires
-    f32-to-usize-requires
+    (λ c κs. search needs)
+    (λ c κs. search needs)
     returns
     returns-2)

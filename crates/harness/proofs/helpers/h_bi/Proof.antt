@@ -5,14 +5,8 @@ use Rattle.rng.specs.Draw.{biFrom}
 use Rattle.harness.proofs.helpers.h_bi.Statement.{statement}
 use Rattle.harness.proofs.helpers.h_bi.Tie as tie
 
-new-requires : tie.Need-new-requires
-new-requires c κs = search needs
-
-bi-requires : tie.Need-bi-requires
-bi-requires c κs = search needs
-
 returns : tie.Need-returns
 returns c = c .bi .ensures .0 ∙ ap biFrom (c .before .new .ensures)
 
 pub h-bi-spec : {M : Type 1} → statement M
-h-bi-spec = tie.close (tie.spec new-requires bi-requires returns)
+h-bi-spec = tie.close (tie.spec (λ c κs. search needs) (λ c κs. search needs) returns)

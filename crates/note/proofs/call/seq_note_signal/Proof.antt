@@ -1,59 +1,67 @@
 -- `note::call::seq_note_signal` meets its contract. Assumes nothing.
-use mathlib.Core.Path.{refl, sym}
+use mathlib.Core.Path.{refl, sym, _∙_}
+use lib.ListN.{length}
+use Rattle.dsl.proofs.Reach.{reaches-own}
 use native.Mathlib.Omega.{arith}
 use Rattle.note.proofs.Calls.{accepted-note-facts, refused-note, accepted-note}
 use borrow.Author.Needs.{needs}
 use Rattle.note.proofs.call.seq_note_signal.Statement.{statement}
 use Rattle.note.proofs.call.seq_note_signal.Tie as tie
 
-note-call-verdict-requires : tie.Need-note-call-verdict-requires
-note-call-verdict-requires c κs = search needs
-
-enum-known-verdict : tie.Need-enum-known-verdict
-enum-known-verdict c = search needs
-
 returns : tie.Need-returns
-returns c = refused-note _ (c .before .verdict .given .0 .0) (rw (c .before .verdict .given .1) at (c .before .before .before .note-call-verdict .ensures)) refl refl refl
-
-enum-told : tie.Need-enum-told
-enum-told c = search needs
+returns c = refused-note _ (sym (c .before .before .verdict .given .1) ∙ c .before .before .before .before .note-call-verdict .ensures) (c .refused .ensures) refl refl
 
 shared-slice-read-draw-count : tie.Need-shared-slice-read-draw-count
-shared-slice-read-draw-count c = (accepted-note-facts _ _ _ _ _ _ _ (sym (rw (c .before .enum-told .given .1) at (c .before .before .before .note-call-verdict .ensures)))) .some
-
-draw-count-requires : tie.Need-draw-count-requires
-draw-count-requires c κs = (accepted-note-facts _ _ _ _ _ _ _ (sym (rw (c .before .enum-told .given .1) at (c .before .before .before .note-call-verdict .ensures)))) .rated
+shared-slice-read-draw-count c = (accepted-note-facts _ (sym (sym (c .before .enum-told .given .1) ∙ c .before .before .before .note-call-verdict .ensures))) .some
 
 voice-note-requires : tie.Need-voice-note-requires
 voice-note-requires c κs =
-    let f = accepted-note-facts _ _ _ _ _ _ _ (sym (rw (c .before .before .before .before .enum-told .given .1) at (c .before .before .before .before .before .before .note-call-verdict .ensures))) in
+    let b4 = c .before .before .before .before in
+    let b6 = c .before .before .before .before .before .before in
+    let b11 = c .before .before .before .before .before .before .before .before .before .before .before in
+    let f = accepted-note-facts _ (sym (sym (b4 .enum-told .given .1) ∙ b6 .note-call-verdict .ensures)) in
+    let a = b11 .args in
     let some = f .some in
     let frames = f .frames in
-    let duties = f .duties in
-    (f .rated, (omega arith, (f .most, (f .stringed, (omega arith, omega arith)))))
-
-same-length : tie.Need-same-length
-same-length c = search needs
-
-same-length-2 : tie.Need-same-length-2
-same-length-2 c = search needs
+    let duties = f .duties in (
+      f .rated,
+      (
+        omega arith,
+        (
+          f .most,
+          (
+            f .stringed,
+            (
+              reaches-own (length (a .pitch .now)) (length (a .out .now)) (omega arith),
+              reaches-own (length (a .duty .now)) (length (a .out .now)) (omega arith),
+            ),
+          ),
+        ),
+      ),
+    )
 
 returns-2 : tie.Need-returns-2
 returns-2 c =
-    let voice = c .before .before .before .before .voice-note in
-    accepted-note _ (sym (rw (c .before .before .before .before .before .before .before .before .before .enum-told .given .1) at (c .before .before .before .before .before .before .before .before .before .before .before .note-call-verdict .ensures))) (voice .result) (c .before .before .before .before .before .before .before .draw-count .result) (c .before .before .before .before .before .before .before .draw-count .ensures) (voice .ensures .0) refl (voice .ensures .1 .0) (voice .ensures .1 .1)
+    let b4 = c .before .before .before .before in
+    let b7 = c .before .before .before .before .before .before .before in
+    let b9 = c .before .before .before .before .before .before .before .before .before in
+    let b11 = c .before .before .before .before .before .before .before .before .before .before .before in
+    let voice = b4 .voice-note in
+    let fine = sym (b9 .enum-told .given .1) ∙ b11 .note-call-verdict .ensures in
+    accepted-note _ fine (voice .result) (b7 .draw-count .result) (b7 .draw-count .ensures) (voice .ensures .0) refl (voice .ensures .1 .0) (voice .ensures .1 .1)
 
 pub seq-note-signal-spec : {M : Type 1} → statement M
 seq-note-signal-spec =
     tie.close
     (tie.spec
-    note-call-verdict-requires
-    enum-known-verdict
+    (λ c κs. search needs)
+    (λ c. search needs)
+    (λ c κs. search needs)
     returns
-    enum-told
+    (λ c. search needs)
     shared-slice-read-draw-count
-    draw-count-requires
+    (λ c κs. tt)
     voice-note-requires
-    same-length
-    same-length-2
+    (λ c. search needs)
+    (λ c. search needs)
     returns-2)

@@ -7,16 +7,10 @@ use Rattle.rng.specs.SplitMix64.{gamma}
 use Rattle.rng.proofs.Rng.at_draw.Statement.{statement}
 use Rattle.rng.proofs.Rng.at_draw.Tie as tie
 
-wrapping-mul-requires : tie.Need-wrapping-mul-requires
-wrapping-mul-requires c κs = search needs
-
-wrapping-add-u64-requires : tie.Need-wrapping-add-u64-requires
-wrapping-add-u64-requires c κs = search needs
-
 returns : tie.Need-returns
 returns c =
     let a = c .before .before .args in
     c .wrapping-add-u64 .ensures ∙ ap (λ (k : ℕ). (a .seed + k) % 2 ^ 64) (c .before .wrapping-mul .ensures) ∙ add-mod-mod (a .seed) (a .c * gamma) (2 ^ 64)
 
 pub at-draw-spec : {M : Type 1} → statement M
-at-draw-spec = tie.close (tie.spec wrapping-mul-requires wrapping-add-u64-requires returns)
+at-draw-spec = tie.close (tie.spec (λ c κs. search needs) (λ c κs. search needs) returns)

@@ -9,9 +9,6 @@ use Rattle.rng.proofs.Draws.{bi-is}
 use Rattle.rng.proofs.Rng.bi.Statement.{statement}
 use Rattle.rng.proofs.Rng.bi.Tie as tie
 
-unit-requires : tie.Need-unit-requires
-unit-requires c κs = search needs
-
 returns : tie.Need-returns
 returns c =
     let s = c .before .before .before .args .self .0 in
@@ -19,4 +16,4 @@ returns c =
     (ap (λ (u : Float). sub binary32 (mul binary32 u (ofBits binary32 0x4000_0000)) (ofBits binary32 0x3f80_0000)) (drawn .0) ∙ bi-is (next s / 2 ^ 40) (top-lt s), drawn .1)
 
 pub bi-spec : {M : Type 1} → statement M
-bi-spec = tie.close (tie.spec unit-requires returns)
+bi-spec = tie.close (tie.spec (λ c κs. search needs) returns)

@@ -5,14 +5,8 @@ use Rattle.rng.specs.SplitMix64.{mix}
 use Rattle.rng.proofs.Rng.next_u64.Statement.{statement}
 use Rattle.rng.proofs.Rng.next_u64.Tie as tie
 
-wrapping-add-u64-requires : tie.Need-wrapping-add-u64-requires
-wrapping-add-u64-requires c κs = search needs
-
-splitmix-mix-requires : tie.Need-splitmix-mix-requires
-splitmix-mix-requires c κs = search needs
-
 returns : tie.Need-returns
 returns c = (c .splitmix-mix .ensures ∙ ap mix (c .before .wrapping-add-u64 .ensures), c .before .wrapping-add-u64 .ensures)
 
 pub next-u64-spec : {M : Type 1} → statement M
-next-u64-spec = tie.close (tie.spec wrapping-add-u64-requires splitmix-mix-requires returns)
+next-u64-spec = tie.close (tie.spec (λ c κs. search needs) (λ c κs. search needs) returns)

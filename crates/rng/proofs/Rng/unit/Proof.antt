@@ -12,9 +12,6 @@ use Rattle.rng.proofs.Draws.{unit-is}
 use Rattle.rng.proofs.Rng.unit.Statement.{statement}
 use Rattle.rng.proofs.Rng.unit.Tie as tie
 
-next-u64-requires : tie.Need-next-u64-requires
-next-u64-requires c κs = search needs
-
 int-to-float-t5 : tie.Need-int-to-float-t5
 unfolding inFloat
 int-to-float-t5 c =
@@ -28,4 +25,4 @@ returns c =
     (ap (λ (v : ℕ). div binary32 (ofInt binary32 (pos (v / 2 ^ 40))) (ofBits binary32 0x4b80_0000)) (drawn .0) ∙ unit-is (next s / 2 ^ 40) (top-lt s), drawn .1)
 
 pub unit-spec : {M : Type 1} → statement M
-unit-spec = tie.close (tie.spec next-u64-requires int-to-float-t5 returns)
+unit-spec = tie.close (tie.spec (λ c κs. search needs) int-to-float-t5 returns)

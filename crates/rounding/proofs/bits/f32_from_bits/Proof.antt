@@ -12,8 +12,5 @@ returns c = nan-made ∙ nan-bits binary32 (c .before .args .pattern) (c .if1 .t
 float-from-bits-result : tie.Need-float-from-bits-result
 float-from-bits-result c = plain-bits binary32 (c .before .args .pattern) (c .if1 .left)
 
-returns-2 : tie.Need-returns-2
-returns-2 c = search needs
-
 pub f32-from-bits-spec : {M : Type 1} → statement M
-f32-from-bits-spec = tie.close (tie.spec returns float-from-bits-result returns-2)
+f32-from-bits-spec = tie.close (tie.spec returns float-from-bits-result (λ c. search needs))

@@ -16,9 +16,6 @@ low-part p h = omega arith
 low-part′ : (p : ℕ) → p ≤ 0x7f80_0000 → p % 2 ^ 31 ≤ 0x7f80_0000
 low-part′ p h = omega arith
 
-add-result : tie.Need-add-result
-add-result c = search needs
-
 float-from-bits-result : tie.Need-float-from-bits-result
 float-from-bits-result c = plain-bits binary32 (c .before .args .pattern + 0x8000_0000) (low-part (c .before .args .pattern) (c .before .pre))
 
@@ -38,4 +35,4 @@ returns-2 c =
 pub signed-f32-spec : {M : Type 1} → statement M
 signed-f32-spec =
     tie.close
-    (tie.spec add-result float-from-bits-result float-from-bits-result-2 returns returns-2)
+    (tie.spec (λ c. search needs) float-from-bits-result float-from-bits-result-2 returns returns-2)

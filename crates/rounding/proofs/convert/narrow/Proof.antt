@@ -15,17 +15,11 @@ returns c = nan-made ∙ ap narrowOf (sym (is-nan (c .before .args .x) (c .if1 .
 float-to-bits-bits : tie.Need-float-to-bits-bits
 float-to-bits-bits c = no-nan (c .before .args .x) (c .if1 .left)
 
-narrow-normal-requires : tie.Need-narrow-normal-requires
-narrow-normal-requires c κs = search needs
-
 returns-2 : tie.Need-returns-2
 returns-2 c = let d = c .before .before .before .before in c .narrow-normal .ensures ∙ ap narrowOf (sign-magnitude (d .args .x) (passes _ (d .good .0 .1)))
 
 narrow-fields-requires : tie.Need-narrow-fields-requires
 narrow-fields-requires c κs = no-nan (c .before .before .args .x) (c .before .if1 .left)
-
-returns-3 : tie.Need-returns-3
-returns-3 c = search needs
 
 pub narrow-spec : {M : Type 1} → statement M
 narrow-spec =
@@ -33,7 +27,7 @@ narrow-spec =
     (tie.spec
     returns
     float-to-bits-bits
-    narrow-normal-requires
+    (λ c κs. search needs)
     returns-2
     narrow-fields-requires
-    returns-3)
+    (λ c. search needs))

@@ -53,12 +53,6 @@ shl-digits c = let h = at62 (c .args .q) (c .pre .0) (c .pre .1) .most in let l 
 add-if1 : tie.Need-add-if1
 add-if1 c = let h = at62 (c .args .q) (c .pre .0) (c .pre .1) .most in record { fits = omega arith }
 
-add-pack-f32 : tie.Need-add-pack-f32
-add-pack-f32 c = search needs
-
-sub-pack-f32 : tie.Need-sub-pack-f32
-sub-pack-f32 c = search needs
-
 round-shift-requires : tie.Need-round-shift-requires
 round-shift-requires c κs = (lit< tt, digits-lt (c .before .args .q) (c .before .pre .0) (c .before .pre .1))
 
@@ -69,7 +63,8 @@ pack-f32-requires c κs =
     let p = c .before .before .pre in
     let r = c .round-shift .ensures ∙ ap (λ (n : ℕ). closest n (2 ^ 39)) (digits-are (a .q) (p .0) (p .1)) in
     let h = at62 (a .q) (p .0) (p .1) in
-    (omega arith, subst (λ (n : ℕ). n ≤ 2 ^ 24) (sym r) (closest-le (a .q * 2 ^ shift (a .q)) 39 24 (h .high)), λ l. subst (λ (n : ℕ). 2 ^ 23 ≤ n) (sym r) (closest-ge (a .q * 2 ^ shift (a .q)) 39 23 (h .low)))
+    let most = subst (λ (n : ℕ). n ≤ 2 ^ 24) (sym r) (closest-le (a .q * 2 ^ shift (a .q)) 39 24 (h .high)) in
+    (omega arith, most, λ l. subst (λ (n : ℕ). 2 ^ 23 ≤ n) (sym r) (closest-ge (a .q * 2 ^ shift (a .q)) 39 23 (h .low)))
 
 returns : tie.Need-returns
 returns c =
@@ -83,11 +78,8 @@ returns c =
 add-d : tie.Need-add-d
 add-d c = let h = at62 (c .before .args .q) (c .before .pre .0) (c .before .pre .1) .most in record { fits = omega arith }
 
-sub-d : tie.Need-sub-d
-sub-d c = search needs
-
 round-shift-requires-2 : tie.Need-round-shift-requires-2
-round-shift-requires-2 c κs = (c .if2 .taken, digits-lt (c .before .before .args .q) (c .before .before .pre .0) (c .before .before .pre .1))
+round-shift-requires-2 c κs = (omega arith, digits-lt (c .before .before .args .q) (c .before .before .pre .0) (c .before .before .pre .1))
 
 pack-f32-requires-2 : tie.Need-pack-f32-requires-2
 pack-f32-requires-2 c κs =
@@ -96,7 +88,8 @@ pack-f32-requires-2 c κs =
     let d = shift (a .q) + 925 - a .k in
     let r = c .round-shift2 .ensures ∙ ap (λ (n : ℕ). closest n (2 ^ d)) (digits-are (a .q) (p .0) (p .1)) in
     let h = at62 (a .q) (p .0) (p .1) in
-    (lit< tt, subst (λ (n : ℕ). n ≤ 2 ^ 24) (sym r) (closest-le (a .q * 2 ^ shift (a .q)) d 24 (lt-of-lt-of-le (h .high) (pow-mono {i = 63} (omega (arith, far (a .k) (shift (a .q)) (c .before .before .if1 .left)))))), λ l. omega arith)
+    let wide : 63 ≤ 24 + d = omega (arith, far (a .k) (shift (a .q)) (c .before .before .if1 .left)) in
+    (lit< tt, subst (λ (n : ℕ). n ≤ 2 ^ 24) (sym r) (closest-le (a .q * 2 ^ shift (a .q)) d 24 (lt-of-lt-of-le (h .high) (pow-mono {i = 63} wide))), λ l. omega arith)
 
 returns-2 : tie.Need-returns-2
 returns-2 c =
@@ -104,12 +97,10 @@ returns-2 c =
     let p = c .before .before .before .before .pre in
     let d = shift (a .q) + 925 - a .k in
     let l = c .before .before .before .if1 .left in
+    let h = at62 (a .q) (p .0) (p .1) in
     c .pack-f322 .ensures
     ∙ ap (λ (n : ℕ). units binary32 (a .sign) n 0) (c .before .round-shift2 .ensures ∙ ap (λ (n : ℕ). closest n (2 ^ d)) (digits-are (a .q) (p .0) (p .1)))
-    ∙ sym (rounded (a .sign) (a .q) (a .k) (shift (a .q)) d 0 (meet-low (a .k) (shift (a .q)) l) (at62 (a .q) (p .0) (p .1) .high) (far (a .k) (shift (a .q)) l) (λ (z : 0 < 0). absurd (lt-irrefl 0 z)))
-
-pack-f32-requires-3 : tie.Need-pack-f32-requires-3
-pack-f32-requires-3 c κs = search needs
+    ∙ sym (rounded (a .sign) (a .q) (a .k) (shift (a .q)) d 0 (meet-low (a .k) (shift (a .q)) l) (h .high) (far (a .k) (shift (a .q)) l) (λ (z : 0 < 0). absurd (lt-irrefl 0 z)))
 
 returns-3 : tie.Need-returns-3
 returns-3 c =
@@ -130,15 +121,15 @@ narrow-digits-spec =
     cast-z
     shl-digits
     add-if1
-    add-pack-f32
-    sub-pack-f32
+    (λ c. search needs)
+    (λ c. search needs)
     round-shift-requires
     pack-f32-requires
     returns
     add-d
-    sub-d
+    (λ c. search needs)
     round-shift-requires-2
     pack-f32-requires-2
     returns-2
-    pack-f32-requires-3
+    (λ c κs. search needs)
     returns-3)

@@ -18,16 +18,10 @@ positive n h = omega arith
 float-to-bits-bits : tie.Need-float-to-bits-bits
 float-to-bits-bits c = c .pre
 
-signed-f32-requires : tie.Need-signed-f32-requires
-signed-f32-requires c κs = search needs
-
 returns : tie.Need-returns
 returns c =
     let d = c .before .before in
     c .signed-f32 .ensures ∙ inf-bits _ ∙ case-top (d .args .x) (passes _ (d .good .0 .1)) (d .pre) (c .before .if1 .taken)
-
-signed-f32-requires-2 : tie.Need-signed-f32-requires-2
-signed-f32-requires-2 c κs = search needs
 
 returns-2 : tie.Need-returns-2
 returns-2 c =
@@ -48,9 +42,6 @@ returns-3 c =
 add-narrow-digits : tie.Need-add-narrow-digits
 add-narrow-digits c = let d = mask-lt (toBits binary64 (c .before .before .args .x)) 52 in record { fits = omega arith }
 
-sub-narrow-digits : tie.Need-sub-narrow-digits
-sub-narrow-digits c = search needs
-
 narrow-digits-requires-2 : tie.Need-narrow-digits-requires-2
 narrow-digits-requires-2 c κs =
     let d = mask-lt (toBits binary64 (c .before .before .args .x)) 52 in
@@ -67,13 +58,13 @@ narrow-fields-spec =
     tie.close
     (tie.spec
     float-to-bits-bits
-    signed-f32-requires
+    (λ c κs. search needs)
     returns
-    signed-f32-requires-2
+    (λ c κs. search needs)
     returns-2
     narrow-digits-requires
     returns-3
     add-narrow-digits
-    sub-narrow-digits
+    (λ c. search needs)
     narrow-digits-requires-2
     returns-4)

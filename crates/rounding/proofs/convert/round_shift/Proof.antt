@@ -13,9 +13,6 @@ use Rattle.rounding.proofs.convert.round_shift.Tie as tie
 abbrev unit : ℕ → ℕ
 unit d = 1 * 2 ^ d % 2 ^ 64
 
-shl-unit : tie.Need-shl-unit
-shl-unit c = search needs
-
 div-quotient : tie.Need-div-quotient
 div-quotient c = unit-pos (c .args .d) (c .pre .0)
 
@@ -49,4 +46,4 @@ returns-3 c =
 pub round-shift-spec : {M : Type 1} → statement M
 round-shift-spec =
     tie.close
-    (tie.spec shl-unit div-quotient rem-rest mul-rest add-result add-result-2 returns returns-2 returns-3)
+    (tie.spec (λ c. search needs) div-quotient rem-rest mul-rest add-result add-result-2 returns returns-2 returns-3)

@@ -25,23 +25,11 @@ below c = next-room (c .before .before .args .m) (c .before .loop .r) (c .before
 loop-holds : tie.Need-loop-holds Inv-loop μ-loop
 loop-holds c = first-digit (c .args .m) (c .pre)
 
-sub-t : tie.Need-sub-t Inv-loop μ-loop
-sub-t c = omega arith
-
-shl-t : tie.Need-shl-t Inv-loop μ-loop
-shl-t c = omega arith
-
 add-t : tie.Need-add-t Inv-loop μ-loop
 add-t c = record { fits = omega (arith, below c) }
 
 mul-if1 : tie.Need-mul-if1 Inv-loop μ-loop
 mul-if1 c = record { fits = lt-of-le-of-lt (mul-le-mul (le-of-lt (below c)) (le-of-lt (below c))) (lit< tt) }
-
-add-i : tie.Need-add-i Inv-loop μ-loop
-add-i c = omega arith
-
-loop-less : tie.Need-loop-less Inv-loop μ-loop
-loop-less c = omega arith
 
 loop-again : tie.Need-loop-again Inv-loop μ-loop
 loop-again c =
@@ -62,11 +50,11 @@ isqrt48-spec =
     Inv-loop
     μ-loop
     loop-holds
-    sub-t
-    shl-t
+    (λ c. omega arith)
+    (λ c. omega arith)
     add-t
     mul-if1
-    add-i
-    loop-less
+    (λ c. omega arith)
+    (λ c. omega arith)
     loop-again
     returns)

@@ -63,9 +63,6 @@ sub-z c = let h = at46 (c .args .q) (c .pre .0) (c .pre .1) .least in omega arit
 cast-z : tie.Need-cast-z
 cast-z c = let h = at46 (c .args .q) (c .pre .0) (c .pre .1) .most in record { fits = omega arith }
 
-add-e : tie.Need-add-e
-add-e c = search needs
-
 sub-e : tie.Need-sub-e
 sub-e c = within (c .args .q) (c .args .k) (c .pre .0) (c .pre .1)
 
@@ -77,15 +74,6 @@ shl-m c = let h = at46 (c .args .q) (c .pre .0) (c .pre .1) .most in omega arith
 
 isqrt48-requires : tie.Need-isqrt48-requires
 isqrt48-requires c κs = subst (λ (n : ℕ). n < 2 ^ 48) (sym (digits-are (c .args .q) (c .args .k) (c .pre .0) (c .pre .1))) (bounds (c .args .q) (c .args .k) (c .pre .0) (c .pre .1) .1)
-
-mul-if1 : tie.Need-mul-if1
-mul-if1 c = search needs
-
-sub-if1 : tie.Need-sub-if1
-sub-if1 c = search needs
-
-add-pack-f32 : tie.Need-add-pack-f32
-add-pack-f32 c = search needs
 
 pack-f32-requires : tie.Need-pack-f32-requires
 pack-f32-requires c κs = (expo-lt (c .before), omega (arith, few (c .before)), λ l. le-trans (many (c .before)) (le-add-right _ 1))
@@ -129,14 +117,14 @@ root-digits-spec =
     (tie.spec
     sub-z
     cast-z
-    add-e
+    (λ c. search needs)
     sub-e
     add-m
     shl-m
     isqrt48-requires
-    mul-if1
-    sub-if1
-    add-pack-f32
+    (λ c. search needs)
+    (λ c. search needs)
+    (λ c. search needs)
     pack-f32-requires
     returns
     pack-f32-requires-2

@@ -52,9 +52,6 @@ returns-5 c =
 add-root-digits : tie.Need-add-root-digits
 add-root-digits c = let d = mask-lt (toBits binary32 (c .before .before .before .before .before .args .x)) 23 in record { fits = omega arith }
 
-sub-root-digits : tie.Need-sub-root-digits
-sub-root-digits c = search needs
-
 root-digits-requires-2 : tie.Need-root-digits-requires-2
 root-digits-requires-2 c κs =
     let d = mask-lt (toBits binary32 (c .before .before .before .before .before .args .x)) 23 in
@@ -80,6 +77,6 @@ sqrt-f32-spec =
     root-digits-requires
     returns-5
     add-root-digits
-    sub-root-digits
+    (λ c. search needs)
     root-digits-requires-2
     returns-6)

@@ -2,7 +2,7 @@
 use Prim.Native.Nat.{_^_, _<_}
 use mathlib.Core.Path.{refl, sym, _∙_}
 use native.Mathlib.Omega.{arith}
-use Rattle.seq.proofs.Calls.{refused-call, overdrawn-call, accepted-call, draw-fits, draws-ask, play-asks}
+use Rattle.seq.proofs.Calls.{refused-call, overdrawn-call, accepted-call, draw-fits}
 use borrow.Author.Needs.{needs}
 use Rattle.seq.proofs.call.render_seq.Statement.{statement}
 use Rattle.seq.proofs.call.render_seq.Tie as tie
@@ -10,69 +10,64 @@ use Rattle.seq.proofs.call.render_seq.Tie as tie
 draw-below : (c : tie.Start) → c .args .session .draw < 2 ^ 64
 draw-below c = omega arith
 
-score-verdict-requires : tie.Need-score-verdict-requires
-score-verdict-requires c κs = search needs
-
-enum-known-r : tie.Need-enum-known-r
-enum-known-r c = search needs
-
 returns : tie.Need-returns
-returns c = refused-call _ _ (c .before .r .given .0 .0) (rw (c .before .r .given .1) at (c .before .before .before .score-verdict .ensures)) refl refl refl refl
-
-enum-told : tie.Need-enum-told
-enum-told c = search needs
+returns c = refused-call _ _ (sym (c .before .r .given .1) ∙ c .before .before .before .score-verdict .ensures) refl refl refl refl
 
 sub-score-draws : tie.Need-sub-score-draws
 sub-score-draws c = let fits = draw-below (c .before .before .before .before .before .before .before .before) in omega arith
 
 score-draws-requires : tie.Need-score-draws-requires
-score-draws-requires c κs = draws-ask _ _ _ (rw (c .enum-told .given .1) at (c .before .before .score-verdict .ensures))
-
-enum-known-sum : tie.Need-enum-known-sum
-enum-known-sum c = search needs
-
-enum-told-2 : tie.Need-enum-told-2
-enum-told-2 c = search needs
+score-draws-requires c κs = sym (sym (c .enum-told .given .1) ∙ c .before .before .score-verdict .ensures)
 
 returns-2 : tie.Need-returns-2
-returns-2 c = overdrawn-call _ _ (rw (c .before .before .before .enum-told .given .1) at (c .before .before .before .before .before .score-verdict .ensures)) (draw-below (c .before .before .before .before .before .before .before .before .before .before .before)) (rw (c .enum-told2 .given .1) at (c .before .before .score-draws .ensures)) refl refl refl refl
+returns-2 c =
+    let b5 = c .before .before .before .before .before in
+    let b11 = c .before .before .before .before .before .before .before .before .before .before .before in
+    let none = sym (c .before .before .before .enum-told .given .1) ∙ b5 .score-verdict .ensures in
+    overdrawn-call _ _ none (draw-below (b11)) (sym (c .enum-told2 .given .1) ∙ c .before .before .score-draws .ensures) refl refl refl refl
 
 play-notes-requires : tie.Need-play-notes-requires
-play-notes-requires c κs = play-asks _ _ _ (rw (c .before .before .before .before .before .before .before .enum-told .given .1) at (c .before .before .before .before .before .before .before .before .before .score-verdict .ensures))
+play-notes-requires c κs =
+    let b7 = c .before .before .before .before .before .before .before in
+    let b9 = c .before .before .before .before .before .before .before .before .before in
+    (sym (sym (b7 .enum-told .given .1) ∙ b9 .score-verdict .ensures), (refl, (refl, refl)))
 
-add-t19 : tie.Need-add-t19
-add-t19 c = record { fits = draw-fits _ _ _ (draw-below (c .before .before .before .before .before .before .before .before .before .before .before .before .before .before .before .before .before .before .before .before .before .before)) (sym (c .before .before .before .before .before .before .before .before .before .before .before .sum .given .1) ∙ c .before .before .before .before .before .before .before .before .before .before .before .before .before .score-draws .ensures) }
-
-same-length : tie.Need-same-length
-same-length c = search needs
-
-same-length-2 : tie.Need-same-length-2
-same-length-2 c = search needs
-
-same-length-3 : tie.Need-same-length-3
-same-length-3 c = search needs
+add-count : tie.Need-add-count
+add-count c =
+    let b11 = c .before .before .before .before .before .before .before .before .before .before .before in
+    let b13 = c .before .before .before .before .before .before .before .before .before .before .before .before .before in
+    let b22 = c .before .before .before .before .before .before .before .before .before .before .before .before .before .before .before .before .before .before .before .before .before .before in
+    record { fits = draw-fits _ _ _ (draw-below (b22)) (sym (b11 .sum .given .1) ∙ b13 .score-draws .ensures) }
 
 returns-3 : tie.Need-returns-3
 returns-3 c =
-    let v = c .before .before .before .before .before .before .play-notes in
-    accepted-call _ _ (rw (c .before .before .before .before .before .before .before .before .before .before .before .before .before .before .enum-told .given .1) at (c .before .before .before .before .before .before .before .before .before .before .before .before .before .before .before .before .score-verdict .ensures)) (draw-below (c .before .before .before .before .before .before .before .before .before .before .before .before .before .before .before .before .before .before .before .before .before .before)) (v .result) (c .before .before .before .before .before .before .before .before .before .before .before .sum .given .0 .0) (sym (c .before .before .before .before .before .before .before .before .before .before .before .sum .given .1) ∙ c .before .before .before .before .before .before .before .before .before .before .before .before .before .score-draws .ensures) (v .ensures .0) refl (v .ensures .1 .0) (v .ensures .1 .1 .0) (v .ensures .1 .1 .1)
+    let b6 = c .before .before .before .before .before .before in
+    let b11 = c .before .before .before .before .before .before .before .before .before .before .before in
+    let b13 = c .before .before .before .before .before .before .before .before .before .before .before .before .before in
+    let b14 = c .before .before .before .before .before .before .before .before .before .before .before .before .before .before in
+    let b16 = c .before .before .before .before .before .before .before .before .before .before .before .before .before .before .before .before in
+    let b22 = c .before .before .before .before .before .before .before .before .before .before .before .before .before .before .before .before .before .before .before .before .before .before in
+    let v = b6 .play-notes in
+    let none = sym (b14 .enum-told .given .1) ∙ b16 .score-verdict .ensures in
+    let all = sym (b11 .sum .given .1) ∙ b13 .score-draws .ensures in
+    accepted-call _ _ none (draw-below (b22)) (v .result) _ all (v .ensures .0) refl (v .ensures .1 .0) (v .ensures .1 .1 .0) (v .ensures .1 .1 .1)
 
 pub render-seq-spec : {M : Type 1} → statement M
 render-seq-spec =
     tie.close
     (tie.spec
-    score-verdict-requires
-    enum-known-r
+    (λ c κs. search needs)
+    (λ c. search needs)
     returns
-    enum-told
+    (λ c. search needs)
     sub-score-draws
     score-draws-requires
-    enum-known-sum
-    enum-told-2
+    (λ c. search needs)
+    (λ c. search needs)
     returns-2
     play-notes-requires
-    add-t19
-    same-length
-    same-length-2
-    same-length-3
+    add-count
+    (λ c. search needs)
+    (λ c. search needs)
+    (λ c. search needs)
     returns-3)

@@ -3,11 +3,8 @@ use borrow.Author.Needs.{needs}
 use Rattle.session.proofs.Session.open.Statement.{statement}
 use Rattle.session.proofs.Session.open.Tie as tie
 
-at-draw-requires : tie.Need-at-draw-requires
-at-draw-requires c κs = search needs
-
 returns : tie.Need-returns
 returns c = λ j. record { rng = record { 0 = c .at-draw .ensures j }; draw = c .before .args .draw }
 
 pub open-spec : {M : Type 1} → statement M
-open-spec = tie.close (tie.spec at-draw-requires returns)
+open-spec = tie.close (tie.spec (λ c κs. search needs) returns)

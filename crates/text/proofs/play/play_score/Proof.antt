@@ -5,24 +5,11 @@ use mathlib.Core.List.{[]}
 use native.Mathlib.Omega.{arith}
 use lib.ListN.{length, drop, length-append}
 use lib.Seq.{length-take-le, take-at}
-use Rattle.score.specs.Score.{scoreOf}
-use Rattle.listing.proofs.Put.{printed-as}
+use Rattle.text_listing.proofs.Put.{printed-as}
 use Rattle.text.proofs.Shown.{played-by}
 use borrow.Author.Needs.{needs}
 use Rattle.text.proofs.play.play_score.Statement.{statement}
 use Rattle.text.proofs.play.play_score.Tie as tie
-
-frames-buffer-requires : tie.Need-frames-buffer-requires
-frames-buffer-requires c κs = search needs
-
-frames-buffer-requires-2 : tie.Need-frames-buffer-requires-2
-frames-buffer-requires-2 c κs = search needs
-
-string-buffer-requires : tie.Need-string-buffer-requires
-string-buffer-requires c κs = search needs
-
-open-requires : tie.Need-open-requires
-open-requires c κs = search needs
 
 array-borrow-prefix-frames : tie.Need-array-borrow-prefix-frames
 array-borrow-prefix-frames c =
@@ -38,80 +25,82 @@ slice-aggregate-out c =
     let fits : a .n ≤ length l = omega (arith, c .before .before .before .before .frames-buffer .ensures, c .before .before .before .before .before .before .before .pre .0) in
     sym (length-take-le (a .n) l fits)
 
-array-share-prefix-lane : tie.Need-array-share-prefix-lane
-array-share-prefix-lane c = search needs
-
-slice-aggregate-render-seq : tie.Need-slice-aggregate-render-seq
-slice-aggregate-render-seq c = search needs
-
-slice-aggregate-render-seq-2 : tie.Need-slice-aggregate-render-seq-2
-slice-aggregate-render-seq-2 c = search needs
-
-slice-aggregate-render-seq-3 : tie.Need-slice-aggregate-render-seq-3
-slice-aggregate-render-seq-3 c = search needs
-
-render-seq-requires : tie.Need-render-seq-requires
-render-seq-requires c κs = search needs
-
 array-share-prefix-frames : tie.Need-array-share-prefix-frames
 array-share-prefix-frames c =
-    let a = c .before .before .before .before .before .before .before .before .before .before .before .before .before .before .before .args in
-    let l = c .before .before .before .before .before .before .before .before .before .before .before .before .frames-buffer .result in
-    let fits : a .n ≤ length l = omega (arith, c .before .before .before .before .before .before .before .before .before .before .before .before .frames-buffer .ensures, c .before .before .before .before .before .before .before .before .before .before .before .before .before .before .before .pre .0) in
-    let v = c .before .before .before .before .render-seq in
+    let b4 = c .before .before .before .before in
+    let b12 = b4 .before .before .before .before .before .before .before .before in
+    let b15 = b12 .before .before .before in
+    let a = b15 .args in
+    let l = b12 .frames-buffer .result in
+    let fits : a .n ≤ length l = omega (arith, b12 .frames-buffer .ensures, b15 .pre .0) in
+    let v = b4 .render-seq in
     let len : length (v .last .1 .1 .1 .1 .0) ≡ a .n = v .kept .1 .1 .1 .1 .0 ∙ length-take-le (a .n) l fits in
     omega (arith, len, length-append (v .last .1 .1 .1 .1 .0) (drop (a .n) l))
 
 slice-aggregate-print-answer : tie.Need-slice-aggregate-print-answer
 slice-aggregate-print-answer c =
-    let a = c .before .before .before .before .before .before .before .before .before .before .before .before .before .before .before .before .args in
-    let l = c .before .before .before .before .before .before .before .before .before .before .before .before .before .frames-buffer .result in
-    let fits : a .n ≤ length l = omega (arith, c .before .before .before .before .before .before .before .before .before .before .before .before .before .frames-buffer .ensures, c .before .before .before .before .before .before .before .before .before .before .before .before .before .before .before .before .pre .0) in
-    let v = c .before .before .before .before .before .render-seq in
+    let b5 = c .before .before .before .before .before in
+    let b13 = b5 .before .before .before .before .before .before .before .before in
+    let b16 = b13 .before .before .before in
+    let a = b16 .args in
+    let l = b13 .frames-buffer .result in
+    let fits : a .n ≤ length l = omega (arith, b13 .frames-buffer .ensures, b16 .pre .0) in
+    let v = b5 .render-seq in
     let len : length (v .last .1 .1 .1 .1 .0) ≡ a .n = v .kept .1 .1 .1 .1 .0 ∙ length-take-le (a .n) l fits in
     sym (ap length (take-at (v .last .1 .1 .1 .1 .0) (drop (a .n) l) (a .n) len) ∙ len)
 
 print-answer-requires : tie.Need-print-answer-requires
 print-answer-requires c κs =
-    let a = c .before .before .before .before .before .before .before .before .before .before .before .before .before .before .before .before .args in
-    let l = c .before .before .before .before .before .before .before .before .before .before .before .before .before .frames-buffer .result in
-    let fits : a .n ≤ length l = omega (arith, c .before .before .before .before .before .before .before .before .before .before .before .before .before .frames-buffer .ensures, c .before .before .before .before .before .before .before .before .before .before .before .before .before .before .before .before .pre .0) in
-    let v = c .before .before .before .before .before .render-seq in
+    let b5 = c .before .before .before .before .before in
+    let b13 = b5 .before .before .before .before .before .before .before .before in
+    let b16 = b13 .before .before .before in
+    let a = b16 .args in
+    let l = b13 .frames-buffer .result in
+    let fits : a .n ≤ length l = omega (arith, b13 .frames-buffer .ensures, b16 .pre .0) in
+    let v = b5 .render-seq in
     let len : length (v .last .1 .1 .1 .1 .0) ≡ a .n = v .kept .1 .1 .1 .1 .0 ∙ length-take-le (a .n) l fits in
     let e = ap length (take-at (v .last .1 .1 .1 .1 .0) (drop (a .n) l) (a .n) len) ∙ len in
-    (omega (arith, e, c .before .before .before .before .before .before .before .before .before .before .before .before .before .before .before .before .pre .0), c .before .before .before .before .before .before .before .before .before .before .before .before .before .before .before .before .pre .1)
-
-same-length : tie.Need-same-length
-same-length c = search needs
+    (omega (arith, e, b16 .pre .0), b16 .pre .1)
 
 returns : tie.Need-returns
 returns c =
-    let a = c .before .before .before .before .before .before .before .before .before .before .before .before .before .before .before .before .before .before .before .args in
-    let l = c .before .before .before .before .before .before .before .before .before .before .before .before .before .before .before .before .frames-buffer .result in
-    let fits : a .n ≤ length l = omega (arith, c .before .before .before .before .before .before .before .before .before .before .before .before .before .before .before .before .frames-buffer .ensures, c .before .before .before .before .before .before .before .before .before .before .before .before .before .before .before .before .before .before .before .pre .0) in
-    let v = c .before .before .before .before .before .before .before .before .render-seq in
+    let b8 = c .before .before .before .before .before .before .before .before in
+    let b13 = b8 .before .before .before .before .before in
+    let b16 = b13 .before .before .before in
+    let b19 = b16 .before .before .before in
+    let a = b19 .args in
+    let l = b16 .frames-buffer .result in
+    let fits : a .n ≤ length l = omega (arith, b16 .frames-buffer .ensures, b19 .pre .0) in
+    let v = b8 .render-seq in
     let len : length (v .last .1 .1 .1 .1 .0) ≡ a .n = v .kept .1 .1 .1 .1 .0 ∙ length-take-le (a .n) l fits in
     let heard = take-at (v .last .1 .1 .1 .1 .0) (drop (a .n) l) (a .n) len in
     let printed = rw heard at (c .before .before .print-answer .ensures) in
-    printed-as (played-by (a .seq) (a .notes .now) (a .n) (a .seed) (a .draw) _ _ (c .before .before .before .before .before .before .before .before .before .before .before .before .before .«open» .ensures) (v .ensures) (λ j. record { score = scoreOf (a .seq) (a .notes .now) [] (length-take-le (a .n) l fits j); room = sym (c .before .before .before .before .before .before .before .before .before .before .before .before .before .before .before .frames-buffer2 .ensures) j; string = sym (c .before .before .before .before .before .before .before .before .before .before .before .before .before .before .string-buffer .ensures) j })) printed
+    let room = sym (b13 .before .before .frames-buffer2 .ensures) in
+    let string = sym (b13 .before .string-buffer .ensures) in
+    let n = length-take-le (a .n) l fits in
+    let opened = b13 .«open» .ensures in
+    printed-as
+    (played-by (a .seq) (a .notes .now) (a .n) (a .seed) (a .draw) _ _ opened (v .ensures)
+    (λ j. record { seq = a .seq; notes = a .notes .now; lane = []; n = n j; room = room j; string = string j }))
+    printed
 
 pub play-score-spec : {M : Type 1} → statement M
 play-score-spec =
     tie.close
     (tie.spec
-    frames-buffer-requires
-    frames-buffer-requires-2
-    string-buffer-requires
-    open-requires
+    (λ c κs. search needs)
+    (λ c κs. search needs)
+    (λ c κs. search needs)
+    (λ c κs. search needs)
     array-borrow-prefix-frames
     slice-aggregate-out
-    array-share-prefix-lane
-    slice-aggregate-render-seq
-    slice-aggregate-render-seq-2
-    slice-aggregate-render-seq-3
-    render-seq-requires
+    (λ c. search needs)
+    (λ c. search needs)
+    (λ c. search needs)
+    (λ c. search needs)
+    (λ c κs. search needs)
     array-share-prefix-frames
     slice-aggregate-print-answer
     print-answer-requires
-    same-length
+    (λ c. search needs)
     returns)

@@ -9,18 +9,6 @@ use Rattle.trig.specs.Trig.{quadrant}
 use Rattle.trig.proofs.sine.by_quadrant.Statement.{statement}
 use Rattle.trig.proofs.sine.by_quadrant.Tie as tie
 
-sin-poly-requires : tie.Need-sin-poly-requires
-sin-poly-requires c κs = search needs
-
-cos-poly-requires : tie.Need-cos-poly-requires
-cos-poly-requires c κs = search needs
-
-sin-poly-requires-2 : tie.Need-sin-poly-requires-2
-sin-poly-requires-2 c κs = search needs
-
-cos-poly-requires-2 : tie.Need-cos-poly-requires-2
-cos-poly-requires-2 c κs = search needs
-
 returns : tie.Need-returns
 unfolding quadrant
 returns c = c .sin-poly .ensures ∙ ap (λ (n : ℕ). quadrant n (c .before .before .args .a)) (sym (c .before .match .keys1))
@@ -46,10 +34,10 @@ pub by-quadrant-spec : {M : Type 1} → statement M
 by-quadrant-spec =
     tie.close
     (tie.spec
-    sin-poly-requires
-    cos-poly-requires
-    sin-poly-requires-2
-    cos-poly-requires-2
+    (λ c κs. search needs)
+    (λ c κs. search needs)
+    (λ c κs. search needs)
+    (λ c κs. search needs)
     returns
     returns-2
     returns-3

@@ -9,15 +9,12 @@ use Rattle.trig.specs.Trig.{lessTurns}
 use Rattle.trig.proofs.sine.less_nearest.Statement.{statement}
 use Rattle.trig.proofs.sine.less_nearest.Tie as tie
 
-less-turns-requires : tie.Need-less-turns-requires
-less-turns-requires c κs = search needs
-
 returns : tie.Need-returns
 unfolding ofBits odd size
-returns c = let d = c .before .before .before in c .less-turns .ensures ∙ ap (lessTurns (d .args .x)) (near-is (near 0 (d .args .t) (c .before .if2 .taken) (c .before .before .if1 .taken)) binary64 (passes _ (d .good .1 .0 .1)) (lit< tt))
-
-less-turns-requires-2 : tie.Need-less-turns-requires-2
-less-turns-requires-2 c κs = search needs
+returns c =
+    let d = c .before .before .before in
+    c .less-turns .ensures
+    ∙ ap (lessTurns (d .args .x)) (near-is (near 0 (d .args .t) (c .before .if2 .taken) (c .before .before .if1 .taken)) binary64 (passes _ (d .good .1 .0 .1)) (lit< tt))
 
 returns-2 : tie.Need-returns-2
 unfolding ofBits neg odd size
@@ -26,9 +23,6 @@ returns-2 c =
     c .less-turns2 .ensures
     ∙ ap (lessTurns (d .args .x)) (near-is (near-mirrored 0 (d .args .t) (c .before .before .if3 .taken) (c .before .if4 .taken)) binary64 (passes _ (d .good .1 .0 .1)) (lit< tt))
 
-less-turns-requires-3 : tie.Need-less-turns-requires-3
-less-turns-requires-3 c κs = search needs
-
 returns-3 : tie.Need-returns-3
 unfolding ofBits neg odd size
 returns-3 c =
@@ -36,14 +30,8 @@ returns-3 c =
     c .less-turns3 .ensures
     ∙ ap (lessTurns (d .args .x)) (near-is (near-mirrored 1 (d .args .t) (c .before .before .if4 .left) (c .before .if5 .taken)) binary64 (passes _ (d .good .1 .0 .1)) (lit< tt))
 
-less-rounded-requires : tie.Need-less-rounded-requires
-less-rounded-requires c κs = search needs
-
 returns-4 : tie.Need-returns-4
 returns-4 c = c .less-rounded .ensures
-
-less-turns-requires-4 : tie.Need-less-turns-requires-4
-less-turns-requires-4 c κs = search needs
 
 returns-5 : tie.Need-returns-5
 unfolding ofBits neg odd size
@@ -52,9 +40,6 @@ returns-5 c =
     c .less-turns4 .ensures
     ∙ ap (lessTurns (d .args .x)) (near-is (near 1 (d .args .t) (c .before .before .if1 .left) (c .before .if6 .taken)) binary64 (passes _ (d .good .1 .0 .1)) (lit< tt))
 
-less-rounded-requires-2 : tie.Need-less-rounded-requires-2
-less-rounded-requires-2 c κs = search needs
-
 returns-6 : tie.Need-returns-6
 returns-6 c = c .less-rounded2 .ensures
 
@@ -62,15 +47,15 @@ pub less-nearest-spec : {M : Type 1} → statement M
 less-nearest-spec =
     tie.close
     (tie.spec
-    less-turns-requires
+    (λ c κs. search needs)
     returns
-    less-turns-requires-2
+    (λ c κs. search needs)
     returns-2
-    less-turns-requires-3
+    (λ c κs. search needs)
     returns-3
-    less-rounded-requires
+    (λ c κs. search needs)
     returns-4
-    less-turns-requires-4
+    (λ c κs. search needs)
     returns-5
-    less-rounded-requires-2
+    (λ c κs. search needs)
     returns-6)

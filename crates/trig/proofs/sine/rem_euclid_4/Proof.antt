@@ -34,9 +34,6 @@ sub-result c = pos-fits (negsuc 0 -ℤ read (c .before .args .q)) (mag (read (c 
 cast-result-2 : tie.Need-cast-result-2
 cast-result-2 c = pos-cast (negsuc 0 -ℤ read (c .before .args .q)) (mag (read (c .before .args .q))) (turned c) (range (c .before))
 
-sub-result-2 : tie.Need-sub-result-2
-sub-result-2 c = search needs
-
 returns-2 : tie.Need-returns-2
 returns-2 c =
     ap (λ (y : ℤ). 3 - natAbs y % 4) (pos-back (negsuc 0 -ℤ read (c .before .args .q)) (mag (read (c .before .args .q))) (turned c) (range (c .before)))
@@ -45,4 +42,4 @@ returns-2 c =
 
 pub rem-euclid-4-spec : {M : Type 1} → statement M
 rem-euclid-4-spec =
-    tie.close (tie.spec cast-result returns sub-result cast-result-2 sub-result-2 returns-2)
+    tie.close (tie.spec cast-result returns sub-result cast-result-2 (λ c. search needs) returns-2)

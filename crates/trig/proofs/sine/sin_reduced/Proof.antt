@@ -4,85 +4,60 @@ use mathlib.Core.Path.{refl, _∙_}
 use lib.Dec.{lit<}
 use lib.IntN.{pos, negsuc}
 use lib.Ieee.{ofBits, neg, ofInt, round, size, units, odd}
-use Rattle.ieee.specs.Binary64.{_⊘_}
+use Rattle.ieee.specs.Binary64.{_⧄_}
 use Rattle.ieee.proofs.Between.{near, near-mirrored, near-signed, zero-signed}
 use Rattle.trig.specs.Trig.{FRAC·PI·2, remEuclid4}
 use Rattle.trig.proofs.Quarters.{quarter}
 use Rattle.trig.proofs.sine.sin_reduced.Statement.{statement}
 use Rattle.trig.proofs.sine.sin_reduced.Tie as tie
 
-by-quadrant-requires : tie.Need-by-quadrant-requires
-by-quadrant-requires c κs = search needs
-
 returns : tie.Need-returns
 unfolding ofBits remEuclid4 ofInt round size units odd
 returns c =
     let d = c .before .before .before in
-    c .by-quadrant .ensures ∙ quarter (d .args .r) (pos 0) 0 _ (zero-signed (d .args .r ⊘ FRAC·PI·2) (c .before .before .if1 .taken) (c .before .if2 .taken) 63) refl refl
-
-by-quadrant-requires-2 : tie.Need-by-quadrant-requires-2
-by-quadrant-requires-2 c κs = search needs
+    c .by-quadrant .ensures ∙ quarter (d .args .r) (pos 0) 0 _ (zero-signed (d .args .r ⧄ FRAC·PI·2) (c .before .before .if1 .taken) (c .before .if2 .taken) 63) refl refl
 
 returns-2 : tie.Need-returns-2
 unfolding ofBits neg remEuclid4 ofInt round size units odd
 returns-2 c =
     let d = c .before .before .before .before in
-    c .by-quadrant2 .ensures ∙ quarter (d .args .r) (negsuc 0) 3 _ (near-signed (near-mirrored 1 (d .args .r ⊘ FRAC·PI·2) (c .before .before .if2 .left) (c .before .if3 .taken)) 63 (lit< tt)) refl refl
-
-by-quadrant-requires-3 : tie.Need-by-quadrant-requires-3
-by-quadrant-requires-3 c κs = search needs
+    let n = near-mirrored 1 (d .args .r ⧄ FRAC·PI·2) (c .before .before .if2 .left) (c .before .if3 .taken) in
+    c .by-quadrant2 .ensures ∙ quarter (d .args .r) (negsuc 0) 3 _ (near-signed n 63 (lit< tt)) refl refl
 
 returns-3 : tie.Need-returns-3
 unfolding ofBits neg remEuclid4 ofInt round size units odd
 returns-3 c =
     let d = c .before .before .before .before .before in
-    c .by-quadrant3 .ensures ∙ quarter (d .args .r) (negsuc 1) 2 _ (near-signed (near-mirrored 2 (d .args .r ⊘ FRAC·PI·2) (c .before .before .if3 .left) (c .before .if4 .taken)) 63 (lit< tt)) refl refl
-
-sin-any-requires : tie.Need-sin-any-requires
-sin-any-requires c κs = search needs
-
-returns-4 : tie.Need-returns-4
-returns-4 c = search needs
-
-by-quadrant-requires-4 : tie.Need-by-quadrant-requires-4
-by-quadrant-requires-4 c κs = search needs
+    let n = near-mirrored 2 (d .args .r ⧄ FRAC·PI·2) (c .before .before .if3 .left) (c .before .if4 .taken) in
+    c .by-quadrant3 .ensures ∙ quarter (d .args .r) (negsuc 1) 2 _ (near-signed n 63 (lit< tt)) refl refl
 
 returns-5 : tie.Need-returns-5
 unfolding ofBits neg remEuclid4 ofInt round size units odd
 returns-5 c =
     let d = c .before .before .before in
-    c .by-quadrant4 .ensures ∙ quarter (d .args .r) (pos 1) 1 _ (near-signed (near 1 (d .args .r ⊘ FRAC·PI·2) (c .before .before .if1 .left) (c .before .if5 .taken)) 63 (lit< tt)) refl refl
-
-by-quadrant-requires-5 : tie.Need-by-quadrant-requires-5
-by-quadrant-requires-5 c κs = search needs
+    c .by-quadrant4 .ensures ∙ quarter (d .args .r) (pos 1) 1 _ (near-signed (near 1 (d .args .r ⧄ FRAC·PI·2) (c .before .before .if1 .left) (c .before .if5 .taken)) 63 (lit< tt)) refl refl
 
 returns-6 : tie.Need-returns-6
 unfolding ofBits neg remEuclid4 ofInt round size units odd
 returns-6 c =
     let d = c .before .before .before .before in
-    c .by-quadrant5 .ensures ∙ quarter (d .args .r) (pos 2) 2 _ (near-signed (near 2 (d .args .r ⊘ FRAC·PI·2) (c .before .before .if5 .left) (c .before .if6 .taken)) 63 (lit< tt)) refl refl
-
-sin-any-requires-2 : tie.Need-sin-any-requires-2
-sin-any-requires-2 c κs = search needs
-
-returns-7 : tie.Need-returns-7
-returns-7 c = search needs
+    c .by-quadrant5 .ensures ∙ quarter (d .args .r) (pos 2) 2 _ (near-signed (near 2 (d .args .r ⧄ FRAC·PI·2) (c .before .before .if5 .left) (c .before .if6 .taken)) 63 (lit< tt)) refl refl
 
 pub sin-reduced-spec : {M : Type 1} → statement M
 sin-reduced-spec =
     tie.close
     (tie.spec
-    by-quadrant-requires
+    (λ c κs. search needs)
     returns
-    by-quadrant-requires-2
+    (λ c κs. search needs)
     returns-2
-    by-quadrant-requires-3
+    (λ c κs. search needs)
     returns-3
-    sin-any-requires
-    returns-4
-    by-quadrant-requires-4
+    (λ c κs. search needs)
+    (λ c. search needs)
+    (λ c κs. search needs)
     returns-5
-    by-quadrant-requires-5
+    (λ c κs. search needs)
     returns-6
-    sin-any-requires-2
-    returns-7)
+    (λ c κs. search needs)
+    (λ c. search needs))

@@ -5,14 +5,8 @@ use Rattle.ieee.proofs.Nans.{plain-bits}
 use Rattle.vectors.proofs.patterns.f64_from_bits.Statement.{statement}
 use Rattle.vectors.proofs.patterns.f64_from_bits.Tie as tie
 
-returns : tie.Need-returns
-returns c = search needs
-
 float-from-bits-result : tie.Need-float-from-bits-result
 float-from-bits-result c = plain-bits binary64 (c .before .args .pattern) (c .if1 .left)
 
-returns-2 : tie.Need-returns-2
-returns-2 c = search needs
-
 pub f64-from-bits-spec : {M : Type 1} → statement M
-f64-from-bits-spec = tie.close (tie.spec returns float-from-bits-result returns-2)
+f64-from-bits-spec = tie.close (tie.spec (λ c. search needs) float-from-bits-result (λ c. search needs))

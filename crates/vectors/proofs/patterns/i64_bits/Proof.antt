@@ -20,16 +20,10 @@ sub-result-2 c =
     let n = c .before .args .n in
     omega (arith, opposite-natural (read n) (read-fits n (c .before .fits .n)) (c .if1 .taken) .1 .fits)
 
-returns : tie.Need-returns
-returns c = search needs
-
 cast-result-2 : tie.Need-cast-result-2
 cast-result-2 c =
     let n = c .before .args .n in
     natural (read n) (read-fits n (c .before .fits .n)) (c .if1 .left)
 
-returns-2 : tie.Need-returns-2
-returns-2 c = search needs
-
 pub i64-bits-spec : {M : Type 1} → statement M
-i64-bits-spec = tie.close (tie.spec sub-result cast-result sub-result-2 returns cast-result-2 returns-2)
+i64-bits-spec = tie.close (tie.spec sub-result cast-result sub-result-2 (λ c. search needs) cast-result-2 (λ c. search needs))

@@ -7,18 +7,9 @@ use Rattle.dsl.specs.Note.{noteOf}
 use Rattle.dsl.proofs.note.SeqNote.decode.Statement.{statement}
 use Rattle.dsl.proofs.note.SeqNote.decode.Tie as tie
 
-f32-from-bits-requires : tie.Need-f32-from-bits-requires
-f32-from-bits-requires c κs = search needs
-
-f32-from-bits-requires-2 : tie.Need-f32-from-bits-requires-2
-f32-from-bits-requires-2 c κs = search needs
-
 returns : tie.Need-returns
 unfolding noteOf
 returns c = if-true _ (eq-eqb _ _ (c .before .before .if1 .taken)) (rw (c .f32-from-bits2 .ensures, c .before .f32-from-bits .ensures))
-
-f32-from-bits-requires-3 : tie.Need-f32-from-bits-requires-3
-f32-from-bits-requires-3 c κs = search needs
 
 returns-2 : tie.Need-returns-2
 unfolding noteOf
@@ -32,9 +23,9 @@ pub decode-spec : {M : Type 1} → statement M
 decode-spec =
     tie.close
     (tie.spec
-    f32-from-bits-requires
-    f32-from-bits-requires-2
+    (λ c κs. search needs)
+    (λ c κs. search needs)
     returns
-    f32-from-bits-requires-3
+    (λ c κs. search needs)
     returns-2
     returns-3)

@@ -4,15 +4,6 @@ use Rattle.dsl.specs.Sized.{pitchSized}
 use Rattle.dsl.proofs.pitch.Pitch.is_sized.Statement.{statement}
 use Rattle.dsl.proofs.pitch.Pitch.is_sized.Tie as tie
 
-enum-known-self : tie.Need-enum-known-self
-enum-known-self c = search needs
-
-is-sized-requires : tie.Need-is-sized-requires
-is-sized-requires c κs = search needs
-
-enum-told : tie.Need-enum-told
-enum-told c = search needs
-
 returns : tie.Need-returns
 unfolding pitchSized
 returns c = rw (c .before .before .self .given .1) (c .is-sized .ensures)
@@ -22,4 +13,4 @@ unfolding pitchSized
 returns-2 c = rw (c .enum-told .given .1)
 
 pub is-sized-spec : {M : Type 1} → statement M
-is-sized-spec = tie.close (tie.spec enum-known-self is-sized-requires enum-told returns returns-2)
+is-sized-spec = tie.close (tie.spec (λ c. search needs) (λ c κs. search needs) (λ c. search needs) returns returns-2)

@@ -1,2 +1,0 @@
-pub mod Brass
-pub mod Flute

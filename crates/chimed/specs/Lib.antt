@@ -1,2 +1,0 @@
-pub mod Mallet
-pub mod Bell

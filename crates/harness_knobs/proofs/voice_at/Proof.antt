@@ -1,0 +1,39 @@
+-- `harness_knobs::voice_at` meets its contract. Assumes nothing.
+use mathlib.Core.Path.{refl}
+use borrow.Author.Tests.{eq-eqb, ne-eqb}
+use Rattle.laws.proofs.If.{if-true, if-false}
+use Rattle.harness_knobs.specs.Knobs.{voiceAt}
+use borrow.Author.Needs.{needs}
+use Rattle.harness_knobs.proofs.voice_at.Statement.{statement}
+use Rattle.harness_knobs.proofs.voice_at.Tie as tie
+
+returns : tie.Need-returns
+unfolding voiceAt
+returns c = if-false _ (ne-eqb _ _ (c .if1 .taken)) refl
+
+returns-2 : tie.Need-returns-2
+unfolding voiceAt
+returns-2 c = if-true _ (eq-eqb _ _ (c .before .before .before .if1 .left)) (rw (← (c .before .before .at .ensures), c .enum-told .given .1))
+
+returns-3 : tie.Need-returns-3
+unfolding voiceAt
+returns-3 c =
+    let b3 = c .before .before .before in
+    let b7 = b3 .before .before .before .before in
+    if-true _ (eq-eqb _ _ (b7 .before .if1 .left))
+    (rw (← (b7 .at .ensures), b3 .before .before .wave .given .1, c .bass-knobs .ensures, c .before .piano-knobs .ensures, c .before .before .pluck-knobs .ensures, b3 .fm-knobs .ensures))
+
+pub voice-at-spec : {M : Type 1} → statement M
+voice-at-spec =
+    tie.close
+    (tie.spec
+    returns
+    (λ c κs. search needs)
+    (λ c. search needs)
+    (λ c. search needs)
+    returns-2
+    (λ c κs. search needs)
+    (λ c κs. search needs)
+    (λ c κs. search needs)
+    (λ c κs. search needs)
+    returns-3)

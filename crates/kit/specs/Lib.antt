@@ -1,2 +1,0 @@
-pub mod Cowbell
-pub mod Voice

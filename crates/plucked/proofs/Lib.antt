@@ -1,3 +1,0 @@
-pub mod Noise
-pub mod Rings
-pub mod Lent

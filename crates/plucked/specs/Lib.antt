@@ -1,4 +1,0 @@
-pub mod Constants
-pub mod Noise
-pub mod Guitar
-pub mod Pluck

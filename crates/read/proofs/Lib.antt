@@ -1,6 +1,0 @@
-pub mod Shorter
-pub mod Gather
-pub mod Texts
-pub mod Said
-pub mod Whole
-pub mod Edges

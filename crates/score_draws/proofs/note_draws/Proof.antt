@@ -1,0 +1,65 @@
+-- `score_draws::note_draws` meets its contract. Assumes nothing.
+use mathlib.Core.Path.{sym, _∙_}
+use borrow.Author.Tests.{lt-leb}
+use Rattle.score.specs.Score.{Score, scoreOf, noteDraws}
+use Rattle.score.proofs.Accepted.{place-asks, first-reached}
+use Rattle.score.proofs.Notes.{skipped-draws, sounded-draws}
+use borrow.Author.Needs.{needs}
+use Rattle.score_draws.proofs.note_draws.Statement.{statement}
+use Rattle.score_draws.proofs.note_draws.Tie as tie
+
+abbrev score-in : tie.Start → Score
+score-in c = scoreOf (c .args .seq) (c .args .notes .now) (c .args .lane .now) (c .args .lent)
+
+returns : tie.Need-returns
+unfolding noteDraws
+returns c = rw (sym (c .before .before .note-at .ensures) ∙ c .enum-told .given .1)
+
+place-note-requires : tie.Need-place-note-requires
+place-note-requires c κs =
+    let at = c .before .before .before .before .before .before .before in
+    place-asks (score-in at) (at .pre .0) _ (at .pre .1) _ (sym (c .before .before .before .before .note-at .ensures) ∙ c .before .before .note .given .1)
+
+returns-2 : tie.Need-returns-2
+returns-2 c =
+    let b6 = c .before .before .before .before .before .before in
+    let b8 = c .before .before .before .before .before .before .before .before in
+    let b11 = c .before .before .before .before .before .before .before .before .before .before .before in
+    let is = sym (b8 .note-at .ensures) ∙ b6 .note .given .1 in
+    rw is (skipped-draws (score-in (b11)) _ (rw (c .before .before .before .place-note .ensures) at (c .if1 .taken)))
+
+at-requires : tie.Need-at-requires
+at-requires c κs =
+    let b7 = c .before .before .before .before .before .before .before in
+    let b9 = c .before .before .before .before .before .before .before .before .before in
+    let b12 = c .before .before .before .before .before .before .before .before .before .before .before .before in
+    let at = b12 in
+    first-reached (score-in at) (at .pre .0) _ (at .pre .1) _ (sym (b9 .note-at .ensures) ∙ b7 .note .given .1)
+
+returns-3 : tie.Need-returns-3
+returns-3 c =
+    let b6 = c .before .before .before .before .before .before in
+    let b9 = c .before .before .before .before .before .before .before .before .before in
+    let b11 = c .before .before .before .before .before .before .before .before .before .before .before in
+    let b14 = c .before .before .before .before .before .before .before .before .before .before .before .before .before .before in
+    let is = sym (b11 .note-at .ensures) ∙ b9 .note .given .1 in
+    let heard = lt-leb _ _ (rw (b6 .place-note .ensures) at (c .before .before .before .if1 .left)) in
+    c .draw-count .ensures ∙ rw (
+      c .before .at .ensures,
+      b6 .place-note .ensures,
+      is,
+    ) (sounded-draws (score-in (b14)) _ heard)
+
+pub note-draws-spec : {M : Type 1} → statement M
+note-draws-spec =
+    tie.close
+    (tie.spec
+    (λ c κs. search needs)
+    (λ c. search needs)
+    (λ c. search needs)
+    returns
+    place-note-requires
+    returns-2
+    at-requires
+    (λ c κs. tt)
+    returns-3)

@@ -1,0 +1,59 @@
+-- The verdicts of a score's notes and of the whole call, from those of its parts. Assumes nothing.
+use Prim.Native.Nat.{ℕ}
+use mathlib.Core.Path.{_≡_, sym, ap, _∙_}
+use mathlib.Core.List.{[], _∷_, map}
+use mathlib.Core.Bool.{cond}
+use lib.ListN.{length}
+use borrow.Author.Tests.{not-false}
+use Rattle.laws.specs.Listed.{listed}
+use Rattle.laws.proofs.Listed.{from-map}
+use Rattle.dsl.specs.Domain.{Frames, numeric}
+use Rattle.dsl.specs.Pitch.{passes}
+use Rattle.dsl.specs.declared.note.SeqNote.{SeqNote}
+use Rattle.dsl.specs.declared.note.Decoded.{Decoded}
+use Rattle.dsl.specs.declared.note.Decoded.the-variants.{Note}
+use Rattle.dsl.proofs.Magnitude.{sized-numeric}
+use Rattle.outcome.specs.First.{_⇒_, firstOf, orElse, firstRefusal, firstAfter}
+use Rattle.outcome.specs.declared.answer.Refusal.{Refusal}
+use Rattle.outcome.specs.declared.answer.Refusal.the-variants.{Reach}
+use Rattle.outcome.specs.declared.answer.Verdict.{Verdict}
+use Rattle.outcome.specs.declared.answer.Verdict.the-variants.{Fine, Refuse}
+use Rattle.outcome.proofs.First.{none-holds, turned, chain-refused, chain-fine}
+use Rattle.score.specs.Score.{Score, noteIn, noteCount, notesIn, place}
+use Rattle.score.specs.Refusals.{callTests, valueTests, noteRefusal, refusal}
+use Rattle.score.proofs.Accepted.{fit}
+
+-- ---- one note, whose words are e
+module _ (s : Score) (e : Decoded) (m : SeqNote) (is : e ≡ Note m) where
+  pub values-refuse : {r : Refusal} → Refuse r ≡ firstAfter Fine (valueTests m) → Refuse r ≡ noteRefusal s e
+  unfolding noteRefusal
+  values-refuse found = chain-refused (valueTests m) _ found ∙ ap (noteRefusal s) (sym is)
+
+  module _ (fine : Fine ≡ firstAfter Fine (valueTests m)) where
+    pub values-number : numeric (m .pitch)
+    values-number = let (_, (_, (_, (p, _)))) = none-holds (valueTests m) (sym (fine ∙ turned Fine (valueTests m))) in sized-numeric (m .pitch) (not-false _ p)
+
+    pub reach-decides : {v : Verdict} → v ≡ cond (passes (m .pitch) (length (s .lane)) (place s m .len)) (Refuse Reach) Fine → v ≡ noteRefusal s e
+    unfolding noteRefusal firstOf
+    reach-decides found = chain-fine (valueTests m) ((passes (m .pitch) (length (s .lane)) (place s m .len) ⇒ Reach) ∷ []) fine found ∙ ap (noteRefusal s) (sym is)
+
+-- ---- all notes
+abbrev pub verdictIn : Score → ℕ → Verdict
+verdictIn s k = noteRefusal s (noteIn s k)
+
+pub all-notes : (s : Score) {v : Verdict} → v ≡ firstRefusal (listed (verdictIn s) (noteCount s)) → v ≡ firstRefusal (map (noteRefusal s) (notesIn s))
+all-notes s e = e ∙ ap firstRefusal (sym (from-map (noteRefusal s) (noteIn s) (noteCount s) 0))
+
+-- ---- the call
+module _ (s : Score) where
+  pub call-refuses : {r : Refusal} → Refuse r ≡ firstAfter Fine (callTests s) → Refuse r ≡ refusal s
+  unfolding refusal
+  call-refuses e = ap (λ (v : Verdict). orElse v (firstRefusal (map (noteRefusal s) (notesIn s)))) (e ∙ turned Fine (callTests s))
+
+  module _ (fine : Fine ≡ firstAfter Fine (callTests s)) where
+    pub call-frames : Frames (s .n)
+    call-frames = fit s (sym (fine ∙ turned Fine (callTests s))) .frames
+
+    pub notes-decide : {v : Verdict} → v ≡ firstRefusal (map (noteRefusal s) (notesIn s)) → v ≡ refusal s
+    unfolding refusal
+    notes-decide e = e ∙ ap (λ (v : Verdict). orElse v (firstRefusal (map (noteRefusal s) (notesIn s)))) (fine ∙ turned Fine (callTests s))

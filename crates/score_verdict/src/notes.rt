@@ -1,0 +1,64 @@
+// The refusals of a score's notes.
+ghost use mathlib.Core.Path.{_≡_};
+ghost use mathlib.Core.List.{map};
+ghost use Rattle.dsl.specs.Domain.{Frames};
+ghost use Rattle.outcome.specs.First.{firstAfter, firstRefusal};
+ghost use Rattle.outcome.specs.declared.answer.Verdict.the-variants.{Fine};
+ghost use Rattle.score.specs.Score.{scoreOf, notesIn};
+ghost use Rattle.score.specs.Refusals.{valueTests, noteRefusal};
+use dsl::Decoded;
+use dsl::SeqNote;
+use outcome::Refusal;
+use outcome::Verdict;
+use outcome::or_else;
+use score::Lent;
+use score::Seq;
+
+// 9 and 10.
+fn values_verdict(note: SeqNote) -> Verdict
+    ensures { λ r. ⌜ r ≡ firstAfter Fine (valueTests note) ⌝ }
+{
+    let pitch = note.pitch;
+    let found = or_else(Verdict::Fine, note.step > 1048575, Refusal::Steps);
+    let found = or_else(found, note.len > 1048575, Refusal::Steps);
+    let found = or_else(found, !dsl::is_sized(note.gain), Refusal::Size);
+    or_else(found, !pitch.is_sized(), Refusal::Size)
+}
+
+// 8, 9, 10 and 12, of one note. Its place is worked out once its pitch is known to be a number.
+fn note_verdict(seq: Seq, notes: &[u32], lane: &[f32], lent: Lent, note: Decoded) -> Verdict
+    requires { ⌜ Frames (lent .n) ⌝ }
+    ensures { λ r. ⌜ r ≡ noteRefusal (scoreOf seq (now (notes .entry)) (now (lane .entry)) lent) note ⌝ }
+{
+    let Decoded::Note(note) = note else {
+        return Verdict::Refuse(Refusal::Kind);
+    };
+    let found = values_verdict(note);
+    if let Verdict::Refuse(r) = found {
+        return Verdict::Refuse(r);
+    }
+    let place = score::place_note(seq.timing, lent.n, note);
+    let pitch = note.pitch;
+    or_else(
+        Verdict::Fine,
+        pitch.passes(lane.len(), place.len),
+        Refusal::Reach,
+    )
+}
+
+// The first refusal of a note in list order.
+pub(crate) fn notes_verdict(seq: Seq, notes: &[u32], lane: &[f32], lent: Lent) -> Verdict
+    requires { ⌜ Frames (lent .n) ⌝ }
+    ensures { λ r. ⌜ r ≡ firstRefusal (map (noteRefusal (scoreOf seq (now (notes .entry)) (now (lane .entry)) lent)) (notesIn (scoreOf seq (now (notes .entry)) (now (lane .entry)) lent))) ⌝ }
+{
+    let count = notes.len() / 5;
+    let mut k = 0usize;
+    while k < count {
+        let note = score::note_at(notes, k);
+        if let Verdict::Refuse(r) = note_verdict(seq, notes, lane, lent, note) {
+            return Verdict::Refuse(r);
+        }
+        k += 1;
+    }
+    Verdict::Fine
+}

@@ -1,2 +1,0 @@
-pub mod Epiano
-pub mod Bass

@@ -1,2 +1,0 @@
-pub mod Organ
-pub mod Strings

@@ -1,0 +1,73 @@
+// The whole text.
+ghost use Rattle.text_read.specs.Text.{Parses};
+use crate::notes::Count;
+use crate::notes::notes;
+use score::Seq;
+use score::Timing;
+use text_lines::LineE;
+use text_lines::LineG;
+use text_lines::LineS;
+use text_lines::line_e;
+use text_lines::line_g;
+use text_lines::line_s;
+use text_voice_line::LineV;
+use text_voice_line::line_v;
+
+// A score call's numbers and voice, the length of its output, the seed and the draw that open its
+// session, and how many notes it has. The notes' words stand in a lent slice.
+pub struct TextScore {
+    pub seq: Seq,
+    pub n: u32,
+    pub seed: u64,
+    pub draw: u64,
+    pub count: usize,
+}
+
+pub enum Parsed {
+    Score(TextScore),
+    Broken,
+}
+
+// Reads the whole of `text`, and stores the words of its notes, five a note, at the start of `words`.
+// Where they do not fit, or the text is not of the form, no word changes; the form of every line is
+// judged all the same.
+pub fn read_score(text: &[u8], words: &mut [u32]) -> Parsed
+    ensures { λ r. ⌜ Parses (now (text .entry)) (now (words .entry)) r (now (words .exit)) ⌝ }
+{
+    let LineS::At(numbers, a) = line_s(text, 0) else {
+        return Parsed::Broken;
+    };
+    let LineG::At(opening, b) = line_g(text, a) else {
+        return Parsed::Broken;
+    };
+    let LineE::At(env, c) = line_e(text, b) else {
+        return Parsed::Broken;
+    };
+    let LineV::At(sound, d) = line_v(text, c) else {
+        return Parsed::Broken;
+    };
+    let Count::Lines(count) = notes(text, d, words) else {
+        return Parsed::Broken;
+    };
+    let voice = sound.voice;
+    let timing = Timing {
+        rate: numbers.rate,
+        tempo: numbers.tempo,
+        steps_per_beat: numbers.steps_per_beat,
+        swing: numbers.swing,
+        humanize: numbers.humanize,
+    };
+    let seq = Seq {
+        timing,
+        voice,
+        duty: sound.duty,
+        env,
+    };
+    Parsed::Score(TextScore {
+        seq,
+        n: numbers.n,
+        seed: opening.seed,
+        draw: opening.draw,
+        count,
+    })
+}

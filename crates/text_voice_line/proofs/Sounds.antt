@@ -1,0 +1,60 @@
+-- Use at the returns of the line V. `knob-waves` names the waves that have knobs. Assumes nothing.
+use Prim.Native.Nat.{ℕ, zero, suc, _≤_}
+use mathlib.Core.Path.{_≡_, refl, sym, ap, _∙_}
+use mathlib.Core.List.{List, _∷_}
+use mathlib.Core.Bool.{Bool, true, false, cond}
+use native.Mathlib.Omega.{arith}
+use lib.ListN.{length, take, replicate, length-replicate}
+use lib.Seq.{length-take-le}
+use lib.Dec.{eqb}
+use lib.Ieee.{binary32, ofBits}
+use Rattle.dsl.specs.Wave.{waveAt}
+use Rattle.dsl.specs.declared.wave.SeqWave.{SeqWave}
+use Rattle.dsl.specs.declared.wave.SeqWave.the-variants.{Fm, Pluck, Piano, Bass}
+use Rattle.dsl.specs.declared.wave.WaveAt.the-variants.{Wave}
+use Rattle.text_digits.specs.Read.{got, broken}
+use Rattle.text_lines.specs.Line.{float, field, ending}
+use Rattle.text_voice_line.specs.Voice.{fmPlace, pluckPlace, pianoPlace, bassPlace, knobCount, voiceOf, soundOf}
+
+pub knob-waves : (waveAt fmPlace ≡ Wave Fm) × (waveAt pluckPlace ≡ Wave Pluck) × (waveAt pianoPlace ≡ Wave Piano) × (waveAt bassPlace ≡ Wave Bass)
+unfolding waveAt
+knob-waves = (refl, refl, refl, refl)
+
+both-most : (t : Bool) {x y m : ℕ} → x ≤ m → y ≤ m → cond t x y ≤ m
+both-most true h l = h
+both-most false h l = l
+
+pub knobs-few : (place : ℕ) {k : ℕ} → k ≡ knobCount place → k ≤ 10
+unfolding knobCount
+knobs-few place e =
+    rw e
+    (both-most (eqb place fmPlace) (omega arith)
+    (both-most (eqb place pluckPlace) (omega arith) (both-most (eqb place pianoPlace) (omega arith) (both-most (eqb place bassPlace) (omega arith) (omega arith)))))
+
+take-replicate : (k n a : ℕ) → k ≤ n → take k (replicate n a) ≡ replicate k a
+take-replicate zero n a h = refl
+take-replicate (suc k) zero a h = absurd (omega arith)
+take-replicate (suc k) (suc n) a h = ap (λ (l : List ℕ). a ∷ l) (take-replicate k n a (omega arith))
+
+module _ (place : ℕ) {k : ℕ} (e : k ≡ knobCount place) where
+  kinds-are : take k (replicate 10 float) ≡ replicate (knobCount place) float
+  kinds-are = take-replicate k 10 float (knobs-few place e) ∙ ap (λ (n : ℕ). replicate n float) e
+
+  pub kinds-length : k ≡ length (take k (replicate 10 float))
+  kinds-length = sym (ap length (take-replicate k 10 float (knobs-few place e)) ∙ length-replicate k float)
+
+  pub bits-few : (bits : List ℕ) → length bits ≡ 10 → k ≤ length bits
+  bits-few bits h = let l = knobs-few place e in omega arith
+
+  pub bits-length : (bits : List ℕ) → length bits ≡ 10 → k ≡ length (take k bits)
+  bits-length bits h = sym (length-take-le k bits (bits-few bits h))
+
+  module _ (w : SeqWave) (x : List ℕ) {duty : ℕ} {y : List ℕ} (d : got duty y ≡ field float x) where
+    pub sound-none : broken ≡ ending (take k (replicate 10 float)) y → broken ≡ soundOf place (Wave w) x
+    unfolding soundOf
+    sound-none h = rw (← d, ← (rw kinds-are at h))
+
+    pub sound-read : (bits : List ℕ) {z : List ℕ} → got (take (length (take k (replicate 10 float))) bits) z ≡ ending (take k (replicate 10 float)) y
+        → got (record { voice = voiceOf place w (take k bits); duty = ofBits binary32 duty }) z ≡ soundOf place (Wave w) x
+    unfolding soundOf
+    sound-read bits h = rw (← d, ← (rw (← kinds-length, kinds-are) at h))

@@ -1,0 +1,180 @@
+// The line V of a text score: a wave with its knobs, and the duty.
+ghost use mathlib.Core.Path.{_≡_};
+ghost use lib.ListN.{drop};
+ghost use Rattle.dsl.specs.Sets.{fmBy, pluckBy, pianoBy, bassBy};
+ghost use Rattle.dsl.specs.declared.wave.WaveAt.the-variants.{Wave};
+ghost use Rattle.text_lines.specs.Line.{floatAt};
+ghost use Rattle.text_voice_line.specs.Voice.{knobCount, voiceWith, voiceOf, soundOf, lineV};
+ghost use Rattle.text_voice_line.specs.Answers.{soundIn};
+use dsl::BassKnobs;
+use dsl::FmKnobs;
+use dsl::PianoKnobs;
+use dsl::PluckKnobs;
+use dsl::SeqVoice;
+use dsl::SeqWave;
+use dsl::WaveAt;
+use text_digits::Number;
+use text_digits::Place;
+use text_digits::expect;
+use text_lines::FLOAT;
+use text_lines::WORD;
+use text_lines::ending;
+use text_lines::field;
+use text_lines::float_at;
+
+// The places of the waves that have knobs.
+const FM: u32 = 5;
+
+const PLUCK: u32 = 6;
+
+const PIANO: u32 = 7;
+
+const BASS: u32 = 15;
+
+// How many knobs the wave at a place has.
+fn knob_count(place: u32) -> usize
+    ensures { λ r. ⌜ r ≡ knobCount place ⌝ }
+{
+    if place == FM {
+        return 3;
+    }
+    if place == PLUCK {
+        return 4;
+    }
+    if place == PIANO {
+        return 5;
+    }
+    if place == BASS {
+        return 10;
+    }
+    0
+}
+
+// The knobs of some bits, 0 where there are none.
+fn fm_of(bits: &[u32]) -> FmKnobs
+    ensures { λ r. ⌜ r ≡ fmBy (floatAt (now (bits .entry))) ⌝ }
+{
+    FmKnobs {
+        fm_ratio: float_at(bits, 0),
+        fm_index: float_at(bits, 1),
+        fm_strike: float_at(bits, 2),
+    }
+}
+
+fn pluck_of(bits: &[u32]) -> PluckKnobs
+    ensures { λ r. ⌜ r ≡ pluckBy (floatAt (now (bits .entry))) ⌝ }
+{
+    PluckKnobs {
+        pluck_decay: float_at(bits, 0),
+        pluck_body: float_at(bits, 1),
+        pluck_pick: float_at(bits, 2),
+        pluck_tone: float_at(bits, 3),
+    }
+}
+
+fn piano_of(bits: &[u32]) -> PianoKnobs
+    ensures { λ r. ⌜ r ≡ pianoBy (floatAt (now (bits .entry))) ⌝ }
+{
+    PianoKnobs {
+        piano_hammer: float_at(bits, 0),
+        piano_strike: float_at(bits, 1),
+        piano_inharm: float_at(bits, 2),
+        piano_detune: float_at(bits, 3),
+        piano_decay: float_at(bits, 4),
+    }
+}
+
+fn bass_of(bits: &[u32]) -> BassKnobs
+    ensures { λ r. ⌜ r ≡ bassBy (floatAt (now (bits .entry))) ⌝ }
+{
+    BassKnobs {
+        bass_cutoff: float_at(bits, 0),
+        bass_env: float_at(bits, 1),
+        bass_env_vel: float_at(bits, 2),
+        bass_decay: float_at(bits, 3),
+        bass_click: float_at(bits, 4),
+        bass_body: float_at(bits, 5),
+        bass_sub: float_at(bits, 6),
+        bass_sub_ratio: float_at(bits, 7),
+        bass_drive: float_at(bits, 8),
+        bass_body_decay: float_at(bits, 9),
+    }
+}
+
+// The voice of the bits of each set.
+fn voice_with(wave: SeqWave, fm: &[u32], pluck: &[u32], piano: &[u32], bass: &[u32]) -> SeqVoice
+    ensures { λ r. ⌜ r ≡ voiceWith wave (now (fm .entry)) (now (pluck .entry)) (now (piano .entry)) (now (bass .entry)) ⌝ }
+{
+    SeqVoice {
+        wave,
+        fm: fm_of(fm),
+        pluck: pluck_of(pluck),
+        piano: piano_of(piano),
+        bass: bass_of(bass),
+    }
+}
+
+// The voice of a wave, of its place and its own knobs' bits.
+fn voice_of(place: u32, wave: SeqWave, bits: &[u32]) -> SeqVoice
+    ensures { λ r. ⌜ r ≡ voiceOf place wave (now (bits .entry)) ⌝ }
+{
+    let none = &bits[..0];
+    if place == FM {
+        return voice_with(wave, bits, none, none, none);
+    }
+    if place == PLUCK {
+        return voice_with(wave, none, bits, none, none);
+    }
+    if place == PIANO {
+        return voice_with(wave, none, none, bits, none);
+    }
+    if place == BASS {
+        return voice_with(wave, none, none, none, bits);
+    }
+    voice_with(wave, none, none, none, none)
+}
+
+pub struct Sound {
+    pub voice: SeqVoice,
+    pub duty: f32,
+}
+
+pub enum LineV {
+    At(Sound, usize),
+    Broken,
+}
+
+// The duty and the knobs of a wave, to the end of its line.
+fn sound_of(s: &[u8], at: usize, place: u32, wave: SeqWave) -> LineV
+    ensures { λ r. ⌜ soundIn (now (s .entry)) r ≡ soundOf place (Wave wave) (drop at (now (s .entry))) ⌝ }
+{
+    let Number::At(duty, first) = field(s, at, FLOAT) else {
+        return LineV::Broken;
+    };
+    let kinds = [FLOAT; 10];
+    let mut bits = [0u32; 10];
+    let k = knob_count(place);
+    let Place::At(next) = ending(s, first, &kinds[..k], &mut bits) else {
+        return LineV::Broken;
+    };
+    let sound = Sound {
+        voice: voice_of(place, wave, &bits[..k]),
+        duty: rounding::f32_from_bits(duty as u32),
+    };
+    LineV::At(sound, next)
+}
+
+pub fn line_v(s: &[u8], at: usize) -> LineV
+    ensures { λ r. ⌜ soundIn (now (s .entry)) r ≡ lineV (drop at (now (s .entry))) ⌝ }
+{
+    let Place::At(first) = expect(s, at, b'V') else {
+        return LineV::Broken;
+    };
+    let Number::At(place, next) = field(s, first, WORD) else {
+        return LineV::Broken;
+    };
+    let WaveAt::Wave(wave) = SeqWave::at(place as u32) else {
+        return LineV::Broken;
+    };
+    sound_of(s, next, place as u32, wave)
+}

@@ -1,2 +1,0 @@
-pub mod Order
-mod Ends

@@ -1,0 +1,3 @@
+mod Rings
+mod Lent
+pub mod Kept

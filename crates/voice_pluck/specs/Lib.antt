@@ -1,0 +1,3 @@
+pub mod Constants
+pub mod Guitar
+pub mod Pluck

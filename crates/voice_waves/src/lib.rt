@@ -1,0 +1,11 @@
+// The waves that `seq_note_signal` of render/seq.rs writes in place, one function a wave. Each
+// fills the lent slice. The pitch and the duty come through `Pitch::at`; `srf` is the rate.
+mod modulated; // modulated.rt: fm
+mod plain; // plain.rt: sawtooth, sine
+mod pulse; // pulse.rt: square, triangle
+
+pub use modulated::fm;
+pub use plain::sawtooth;
+pub use plain::sine;
+pub use pulse::square;
+pub use pulse::triangle;

@@ -1,4 +1,0 @@
-pub mod Plain
-pub mod Pulse
-pub mod Noise
-pub mod Fm
