@@ -1,0 +1,32 @@
+-- `board::queue::Queue::put` meets its contract. Assumes nothing.
+use Prim.Native.Nat.{_<_}
+use mathlib.Core.Path.{_≡_}
+use lib.ListN.{length}
+use borrow.Author.Needs.{needs}
+use Rattle.board.proofs.Ring.{put-is}
+use Rattle.board.proofs.queue.Queue.put.Statement.{statement}
+use Rattle.board.proofs.queue.Queue.put.Tie as tie
+
+fill-requires : tie.Need-fill-requires
+fill-requires c κs = search needs
+
+add-next : tie.Need-add-next
+add-next c = search needs
+
+mul-self : tie.Need-mul-self
+mul-self c = search needs
+
+element-write-self : tie.Need-element-write-self
+element-write-self c = search needs
+
+add-self : tie.Need-add-self
+add-self c = search needs
+
+returns : tie.Need-returns
+returns c =
+    let fill : c .fill .result < 64 = search needs in
+    let places : length (c .before .args .t1 .places) ≡ 64 = search needs in
+    put-is (c .before .args .t1) (c .fill .result) (c .before .args .sample) (c .fill .ensures) fill places
+
+pub put-spec : {M : Type 1} → statement M
+put-spec = tie.close (tie.spec fill-requires add-next mul-self element-write-self add-self returns)

@@ -1,0 +1,67 @@
+// The samples that wait, first in, first out: 64 places in a ring, so that neither end ever moves the
+// samples between.
+ghost use mathlib.Core.Path.{_≡_};
+ghost use mathlib.Core.List.{[], _∷_, _++_};
+ghost use Prim.Native.Nat.{_<_};
+ghost use lib.ListN.{length};
+ghost use Rattle.board.specs.Queue.{waiting};
+
+pub(crate) struct Queue {
+    // Samples as f32 bit patterns, so that a NaN keeps its bits.
+    places: [u32; 64],
+    // The place of the oldest sample, modulo 64.
+    oldest: usize,
+    // How many wait. No call leaves more than 64; a larger number counts as 64.
+    count: usize,
+}
+
+// The oldest sample, and the queue without it.
+pub(crate) struct Taken {
+    pub(crate) queue: Queue,
+    pub(crate) sample: u32,
+}
+
+impl Queue {
+    pub(crate) fn new() -> Queue
+        ensures { λ r. ⌜ waiting r ≡ [] ⌝ }
+    {
+        Queue {
+            places: [0; 64],
+            oldest: 0,
+            count: 0,
+        }
+    }
+
+    pub(crate) fn fill(self) -> usize
+        ensures { λ r. ⌜ r ≡ length (waiting self) ⌝ }
+    {
+        if self.count < 64 { self.count } else { 64 }
+    }
+
+    // With one sample more, behind those that wait.
+    pub(crate) fn put(mut self, sample: u32) -> Queue
+        requires { ⌜ length (waiting self) < 64 ⌝ }
+        ensures { λ r. ⌜ waiting r ≡ waiting self ++ (sample ∷ []) ⌝ }
+    {
+        let fill = self.fill();
+        let next = (self.oldest % 64 + fill) % 64;
+        self.places[next] = sample;
+        self.count = fill + 1;
+        self
+    }
+
+    pub(crate) fn take(mut self) -> Taken
+        requires { ⌜ 0 < length (waiting self) ⌝ }
+        ensures { λ r. ⌜ waiting self ≡ r .sample ∷ waiting (r .queue) ⌝ }
+    {
+        let fill = self.fill();
+        let at = self.oldest % 64;
+        let sample = self.places[at];
+        self.oldest = at + 1;
+        self.count = fill - 1;
+        Taken {
+            queue: self,
+            sample,
+        }
+    }
+}
