@@ -43,7 +43,10 @@ two true false = (refl, refl)
 two false true = (refl, refl)
 two false false = (refl, refl)
 
-three : (l u f : Bool) → (bit0 (digit l + 2 * digit u + 4 * digit f) ≡ l) × (bit1 (digit l + 2 * digit u + 4 * digit f) ≡ u) × (eqb ((digit l + 2 * digit u + 4 * digit f) / 4 % 2) 1 ≡ f)
+abbrev Bits : ℕ → Bool → Bool → Bool → Type 0
+Bits byte l u f = (bit0 byte ≡ l) × (bit1 byte ≡ u) × (eqb (byte / 4 % 2) 1 ≡ f)
+
+three : (l u f : Bool) → Bits (digit l + 2 * digit u + 4 * digit f) l u f
 three true true true = (refl, refl, refl)
 three true true false = (refl, refl, refl)
 three true false true = (refl, refl, refl)
@@ -59,7 +62,7 @@ unfolding byteAt controlOf
 control-bits m = two (m .run) (m .enable)
 
 -- "Byte 1 status: bit 0 fill below the low-water mark, bit 1 underrun, bit 2 full."
-pub status-bits : (m : Registers) → (bit0 (byteAt m 1) ≡ low m) × (bit1 (byteAt m 1) ≡ m .underrun) × (eqb (byteAt m 1 / 4 % 2) 1 ≡ full m)
+pub status-bits : (m : Registers) → Bits (byteAt m 1) (low m) (m .underrun) (full m)
 unfolding byteAt statusOf
 status-bits m = three (low m) (m .underrun) (full m)
 

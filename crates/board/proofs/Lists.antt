@@ -7,7 +7,7 @@ use native.Mathlib.Omega.{arith}
 use lib.ListN.{length}
 use Rattle.board.specs.Registers.{Registers, registers, full}
 use Rattle.board.specs.Shape.{covers, byteFor, isSample, sampleOf, permitted}
-use Rattle.board.specs.Write.{Written, bit1, stored, queued, taken, refused, sampled, writeOf}
+use Rattle.board.specs.Write.{Written, bit1, stored, queued, taken, refused, sampled, other, writeOf}
 use Rattle.board.specs.Claim.{Event, Run, none, wrote, ticked}
 use Rattle.board.specs.declared.registers.Board.{Board}
 use Rattle.board.specs.declared.answer.WriteOutcome.the-variants.{QueueFull, Invalid}
@@ -28,7 +28,7 @@ module _ (m : Registers) (place : ℕ) (bytes : List ℕ) where
   other-clears true = refl
   other-clears false = refl
 
-  clears-by : (s : Bool) → isSample place bytes ≡ s → Clears (permitted place bytes) (cond s (sampled m (sampleOf bytes)) (cond (permitted place bytes) (taken (stored m place bytes)) (refused m Invalid)))
+  clears-by : (s : Bool) → isSample place bytes ≡ s → Clears (permitted place bytes) (cond s (sampled m (sampleOf bytes)) (other m place bytes))
   unfolding sampled
   clears-by true e = rw (sample-alone m place bytes e) (sample-clears (full m))
   clears-by false e = other-clears (permitted place bytes)
@@ -54,7 +54,7 @@ module _ (m : Registers) (place : ℕ) (bytes : List ℕ) where
   other-low true e h = stored-low (covers place (length bytes) 2) (byteFor place bytes 2) (permitted-mark place bytes e) h
   other-low false e h = h
 
-  low-by : (s : Bool) → Low (cond s (sampled m (sampleOf bytes)) (cond (permitted place bytes) (taken (stored m place bytes)) (refused m Invalid)))
+  low-by : (s : Bool) → Low (cond s (sampled m (sampleOf bytes)) (other m place bytes))
   unfolding sampled
   low-by true = sample-low (full m)
   low-by false = other-low (permitted place bytes) refl

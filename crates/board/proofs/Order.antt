@@ -7,8 +7,8 @@ use mathlib.Core.Bool.{Bool, true, false, cond}
 use Rattle.board.specs.Queue.{waiting}
 use Rattle.board.specs.Registers.{Registers, registers, full}
 use Rattle.board.specs.Shape.{isSample, sampleOf, permitted}
-use Rattle.board.specs.Write.{Written, stored, queued, refused, taken, writeOf, sampled}
-use Rattle.board.specs.Tick.{running, tickOf}
+use Rattle.board.specs.Write.{Written, stored, queued, taken, refused, sampled, other, writeOf}
+use Rattle.board.specs.Tick.{Ticked, running, standing, tickOf}
 use Rattle.board.specs.Claim.{Event, Run, none, wrote, ticked, acceptedBy, accepted, takenIn}
 use Rattle.board.specs.declared.registers.Board.{Board}
 use Rattle.board.specs.declared.answer.WriteOutcome.the-variants.{QueueFull, Invalid}
@@ -27,7 +27,7 @@ module _ (m : Registers) (place : ℕ) (bytes : List ℕ) where
   other-adds true e = rw (e, append-nil)
   other-adds false e = sym (append-nil (m .waiting))
 
-  write-adds-by : (s : Bool) → isSample place bytes ≡ s → Adds (cond s (sampled m (sampleOf bytes)) (cond (permitted place bytes) (taken (stored m place bytes)) (refused m Invalid)))
+  write-adds-by : (s : Bool) → isSample place bytes ≡ s → Adds (cond s (sampled m (sampleOf bytes)) (other m place bytes))
   unfolding sampled
   write-adds-by true e = sample-adds (full m) e
   write-adds-by false e = other-adds (permitted place bytes) e
@@ -42,11 +42,14 @@ module _ (m : Registers) where
   run-takes [] = refl
   run-takes (x ∷ xs) = refl
 
-  takes-by : (b : Bool) → cond b (running m (m .waiting)) (record { after = m; played = 0; taken = [] }) .taken ++ cond b (running m (m .waiting)) (record { after = m; played = 0; taken = [] }) .after .waiting ≡ m .waiting
+  abbrev Takes : Ticked → Type 0
+  Takes t = t .taken ++ t .after .waiting ≡ m .waiting
+
+  takes-by : (b : Bool) → Takes (cond b (running m (m .waiting)) (standing m))
   takes-by true = run-takes (m .waiting)
   takes-by false = refl
 
-  pub tick-takes : tickOf m .taken ++ tickOf m .after .waiting ≡ m .waiting
+  pub tick-takes : Takes (tickOf m)
   unfolding tickOf
   tick-takes = takes-by (m .run)
 

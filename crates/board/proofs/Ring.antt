@@ -73,10 +73,12 @@ pub taken-is : (q : Queue) (fill : ℕ) → fill ≡ length (waiting q) → 0 < 
     → waiting q ≡ getD (q .places) (q .oldest % 64) 0 ∷ waiting (record { places = q .places; oldest = q .oldest % 64 + 1; count = fill - 1 })
 taken-is q fill e h =
     let few : fill - 1 ≤ 64 = omega (arith, fill-most q) in
-    waiting-by q fill e ∙ taken-from (q .places) (q .oldest) fill h ∙ ap (λ (l : List ℕ). getD (q .places) (q .oldest % 64) 0 ∷ l) (sym (waiting-few (q .places) (q .oldest % 64 + 1) (fill - 1) few))
+    let others = waiting-few (q .places) (q .oldest % 64 + 1) (fill - 1) few in
+    waiting-by q fill e ∙ taken-from (q .places) (q .oldest) fill h ∙ ap (λ (l : List ℕ). getD (q .places) (q .oldest % 64) 0 ∷ l) (sym others)
 
 -- a sample put behind n others, which leave a place free
-put-at : (places : List ℕ) (oldest n sample : ℕ) → n < 64 → length places ≡ 64 → samplesFrom (set places ((oldest + n) % 64) sample) oldest (suc n) ≡ samplesFrom places oldest n ++ (sample ∷ [])
+put-at : (places : List ℕ) (oldest n sample : ℕ) → n < 64 → length places ≡ 64
+    → samplesFrom (set places ((oldest + n) % 64) sample) oldest (suc n) ≡ samplesFrom places oldest n ++ (sample ∷ [])
 unfolding samplesFrom
 put-at places oldest zero sample h l =
     let e : oldest + 0 ≡ oldest = omega arith in

@@ -8,7 +8,7 @@ use lib.Dec.{eqb}
 use native.Mathlib.Omega.{arith}
 use borrow.Author.Tests.{ne-eqb}
 use Rattle.board.specs.Registers.{Registers, fill}
-use Rattle.board.specs.Tick.{plusZero, running, tickOf}
+use Rattle.board.specs.Tick.{plusZero, running, standing, tickOf}
 
 module _ (m : Registers) where
   -- "takes the oldest sample"
@@ -33,7 +33,7 @@ module _ (m : Registers) where
       let n : length (x ∷ w) ≡ 0 → ⊥ = λ e. omega arith in
       rw (ne-eqb (length (x ∷ w)) 0 n, or-false (m .underrun))
 
-  underrun-by : (b : Bool) → cond b (running m (m .waiting)) (record { after = m; played = plusZero; taken = [] }) .after .underrun ≡ (m .underrun || (b && eqb (fill m) 0))
+  underrun-by : (b : Bool) → cond b (running m (m .waiting)) (standing m) .after .underrun ≡ (m .underrun || (b && eqb (fill m) 0))
   underrun-by true = running-underrun (m .waiting)
   underrun-by false = rw (or-false (m .underrun))
 
@@ -43,7 +43,7 @@ module _ (m : Registers) where
   tick-underrun = underrun-by (m .run)
 
   -- a tick leaves control and mark
-  kept-by : (b : Bool) (w : List ℕ) → cond b (running m w) (record { after = m; played = plusZero; taken = [] }) .after .mark ≡ m .mark
+  kept-by : (b : Bool) (w : List ℕ) → cond b (running m w) (standing m) .after .mark ≡ m .mark
   kept-by true [] = refl
   kept-by true (x ∷ w) = refl
   kept-by false w = refl

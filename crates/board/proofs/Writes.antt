@@ -9,7 +9,7 @@ use lib.ListN.{length, getD}
 use lib.Dec.{ltb, leb, eqb}
 use Rattle.board.specs.Registers.{Registers, digit, fill, full, controlOf, byteAt}
 use Rattle.board.specs.Shape.{byteFor, isSample, sampleOf, inside, valid, permitted}
-use Rattle.board.specs.Write.{Written, bit0, bit1, stored, queued, taken, refused, sampled, writeOf}
+use Rattle.board.specs.Write.{Written, bit0, bit1, stored, queued, taken, refused, sampled, other, writeOf}
 use Rattle.board.specs.Whole.{Whole}
 use Rattle.board.specs.declared.answer.WriteOutcome.the-variants.{Accepted, QueueFull, Invalid}
 use Rattle.board.proofs.Shapes.{and-both}
@@ -40,7 +40,7 @@ module _ (m : Registers) (place : ℕ) (bytes : List ℕ) where
   other-kept true h = absurd (h refl)
   other-kept false h = refl
 
-  kept-by : (s : Bool) → Kept (cond s (sampled m (sampleOf bytes)) (cond (permitted place bytes) (taken (stored m place bytes)) (refused m Invalid)))
+  kept-by : (s : Bool) → Kept (cond s (sampled m (sampleOf bytes)) (other m place bytes))
   unfolding sampled
   kept-by true = sample-kept (full m)
   kept-by false = other-kept (permitted place bytes)
@@ -87,6 +87,10 @@ not-true : (b : Bool) → (b ≡ true → ⊥) → b ≡ false
 not-true true h = absurd (h refl)
 not-true false h = refl
 
+long-other : (place : ℕ) (bytes : List ℕ) → 8 < length bytes → isSample place bytes ≡ false
+unfolding isSample
+long-other place bytes h = not-true (eqb place 4 && eqb (length bytes) 4) (λ e. omega (arith, eqb-true (length bytes) 4 (and-both (eqb place 4) (eqb (length bytes) 4) e .1)))
+
 -- a control's byte is its two bits
 two-bits : (v : ℕ) → v ≤ 3 → digit (bit0 v) + 2 * digit (bit1 v) ≡ v
 two-bits zero h = refl
@@ -132,7 +136,7 @@ module _ (m : Registers) (place : ℕ) (bytes : List ℕ) where
   other-full true h = absurd (let z : _≡_ {A = ℕ} 0 1 = cc in omega arith)
   other-full false h = absurd (let z : _≡_ {A = ℕ} 0 1 = cc in omega arith)
 
-  full-by : (s : Bool) → isSample place bytes ≡ s → Full (cond s (sampled m (sampleOf bytes)) (cond (permitted place bytes) (taken (stored m place bytes)) (refused m Invalid)))
+  full-by : (s : Bool) → isSample place bytes ≡ s → Full (cond s (sampled m (sampleOf bytes)) (other m place bytes))
   unfolding sampled
   full-by true e = sample-full (full m) refl e
   full-by false e = other-full (permitted place bytes)
@@ -147,9 +151,9 @@ module _ (m : Registers) (place : ℕ) (bytes : List ℕ) where
   sample-queued e f = rw (a-sample m place bytes e, ne-eqb (fill m) 64 f)
 
   -- any other write with one of these faults is refused with 39
-  module _ (other : isSample place bytes ≡ false) where
+  module _ (no-sample : isSample place bytes ≡ false) where
     faulty : (permitted place bytes ≡ true → ⊥) → writeOf m place bytes ≡ refused m Invalid
-    faulty h = neither m place bytes other (not-true (permitted place bytes) h)
+    faulty h = neither m place bytes no-sample (not-true (permitted place bytes) h)
 
     -- "an empty write"
     pub empty-refused : length bytes ≡ 0 → writeOf m place bytes ≡ refused m Invalid
@@ -170,3 +174,9 @@ module _ (m : Registers) (place : ℕ) (bytes : List ℕ) where
     -- "or of a control above 3"
     pub control-refused : 3 < byteFor place bytes 0 → writeOf m place bytes ≡ refused m Invalid
     control-refused h = faulty (λ p. omega (arith, permitted-control place bytes p))
+
+-- "past the block", wherever it starts
+pub long-refused : (m : Registers) (place : ℕ) (bytes : List ℕ) → 8 < length bytes → writeOf m place bytes ≡ refused m Invalid
+long-refused m place bytes h =
+    let n : 3 < place + length bytes = omega arith in
+    past-refused m place bytes (long-other place bytes h) n

@@ -22,7 +22,8 @@ pub data Event : Type 0 where
 -- it.
 pub data Run : Board → List Event → Board → Type 0 where
   none : {a : Board} → Run a [] a
-  wrote : {a b : Board} {es : List Event} (place : ℕ) (bytes : List ℕ) (r : Write) → written r ≡ writeOf (registers a) place bytes → Run (r .board) es b → Run a (write place bytes r ∷ es) b
+  wrote : {a b : Board} {es : List Event} (place : ℕ) (bytes : List ℕ) (r : Write) → written r ≡ writeOf (registers a) place bytes → Run (r .board) es b
+      → Run a (write place bytes r ∷ es) b
   ticked : {a b : Board} {es : List Event} (r : Tick) → Ticks a r → Run (r .board) es b → Run a (tick r ∷ es) b
 
 -- the sample of a write that was answered so, if it was one

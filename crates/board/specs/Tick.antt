@@ -31,8 +31,12 @@ running m (oldest ∷ others) = record {
   taken = oldest ∷ [];
 }
 
+-- with run clear
+abbrev pub standing : Registers → Ticked
+standing m = record { after = m; played = plusZero; taken = [] }
+
 unfoldable pub tickOf : Registers → Ticked
-tickOf m = cond (m .run) (running m (m .waiting)) (record { after = m; played = plusZero; taken = [] })
+tickOf m = cond (m .run) (running m (m .waiting)) (standing m)
 
 -- what the program's tick of a board leaves and plays
 pub record Ticks (b : Board) (r : Tick) : Type 0 where

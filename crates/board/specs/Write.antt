@@ -48,9 +48,13 @@ refused m outcome = record { after = m; outcome = outcome }
 unfoldable pub sampled : Registers → ℕ → Written
 sampled m sample = cond (full m) (refused m QueueFull) (taken (queued m sample))
 
+-- any other write
+abbrev pub other : Registers → ℕ → List ℕ → Written
+other m place bytes = cond (permitted place bytes) (taken (stored m place bytes)) (refused m Invalid)
+
 unfoldable pub writeOf : Registers → ℕ → List ℕ → Written
 writeOf m place bytes =
-    cond (isSample place bytes) (sampled m (sampleOf bytes)) (cond (permitted place bytes) (taken (stored m place bytes)) (refused m Invalid))
+    cond (isSample place bytes) (sampled m (sampleOf bytes)) (other m place bytes)
 
 -- what the program's answer stands for
 abbrev pub written : Write → Written

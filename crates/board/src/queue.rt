@@ -6,7 +6,8 @@ ghost use Prim.Native.Nat.{_<_};
 ghost use lib.ListN.{length};
 ghost use Rattle.board.specs.Queue.{waiting};
 
-pub(crate) struct Queue {
+// `pub`, since a board that other crates hold has one within; they can do nothing with it.
+pub struct Queue {
     // Samples as f32 bit patterns, so that a NaN keeps its bits.
     places: [u32; 64],
     // The place of the oldest sample, modulo 64.

@@ -22,7 +22,9 @@ is-valid-requires c κs = search needs
 returns : tie.Need-returns
 unfolding permitted
 returns c =
-    rw (← (c .before .before .before .before .before .is-inside .ensures), c .before .before .before .before .if1 .taken, ← (c .before .byte-for3 .ensures), ← (c .before .before .byte-for2 .ensures), ← (c .before .before .before .byte-for .ensures)) (c .is-valid .ensures)
+    let d = c .before .before .before in
+    rw (← (d .before .before .is-inside .ensures), d .before .if1 .taken)
+    (rw (← (c .before .byte-for3 .ensures), ← (c .before .before .byte-for2 .ensures), ← (d .byte-for .ensures)) (c .is-valid .ensures))
 
 returns-2 : tie.Need-returns-2
 unfolding permitted

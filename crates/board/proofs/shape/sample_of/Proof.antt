@@ -48,7 +48,9 @@ add-result-3 c = search needs
 
 returns : tie.Need-returns
 unfolding sampleOf
-returns c = rw (c .word4 .ensures .0, c .before .before .word3 .ensures .0, c .before .before .before .before .word2 .ensures .0, c .before .before .before .before .before .before .word .ensures .0)
+returns c =
+    let d = c .before .before .before .before in
+    rw (c .word4 .ensures .0, c .before .before .word3 .ensures .0, d .word2 .ensures .0, d .before .before .word .ensures .0)
 
 pub sample-of-spec : {M : Type 1} → statement M
 sample-of-spec =

@@ -51,7 +51,8 @@ returns-4 c =
 returns-5 : tie.Need-returns-5
 unfolding byteAt
 returns-5 c =
-    if-false _ (ne-eqb _ _ (c .before .before .before .if1 .left)) (if-false _ (ne-eqb _ _ (c .before .before .if2 .left)) (if-false _ (ne-eqb _ _ (c .before .if3 .left)) (if-false _ (ne-eqb _ _ (c .if4 .left)) refl)))
+    if-false _ (ne-eqb _ _ (c .before .before .before .if1 .left)) (if-false _ (ne-eqb _ _ (c .before .before .if2 .left))
+    (if-false _ (ne-eqb _ _ (c .before .if3 .left)) (if-false _ (ne-eqb _ _ (c .if4 .left)) refl)))
 
 pub read-spec : {M : Type 1} → statement M
 read-spec =

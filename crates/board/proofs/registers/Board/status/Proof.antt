@@ -33,7 +33,9 @@ add-result-2 c = search needs
 
 returns : tie.Need-returns
 unfolding statusOf
-returns c = rw (c .digit3 .ensures .0, c .before .is-full .ensures, c .before .before .digit2 .ensures .0, c .before .before .before .digit .ensures .0, c .before .before .before .before .is-low .ensures)
+returns c =
+    let d = c .before .before in
+    rw (c .digit3 .ensures .0, c .before .is-full .ensures, d .digit2 .ensures .0, d .before .digit .ensures .0, d .before .before .is-low .ensures)
 
 pub status-spec : {M : Type 1} → statement M
 status-spec =

@@ -29,7 +29,8 @@ stored-requires c κs = search needs
 returns-2 : tie.Need-returns-2
 unfolding writeOf
 returns-2 c =
-    if-false _ (sym (c .before .before .before .before .is-sample .ensures) ∙ c .before .before .before .if1 .left) (if-true _ (sym (c .before .before .is-permitted .ensures) ∙ c .before .if2 .taken) (rw (c .stored .ensures)))
+    if-false _ (sym (c .before .before .before .before .is-sample .ensures) ∙ c .before .before .before .if1 .left)
+    (if-true _ (sym (c .before .before .is-permitted .ensures) ∙ c .before .if2 .taken) (rw (c .stored .ensures)))
 
 returns-3 : tie.Need-returns-3
 unfolding writeOf

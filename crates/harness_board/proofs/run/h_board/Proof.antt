@@ -1,0 +1,106 @@
+-- `harness_board::run::h_board` meets its contract. Assumes nothing.
+use mathlib.Core.Path.{_≡_, _∙_, refl, ap}
+use Prim.Native.Nat.{_+_, _*_, _-_, _/_, _<_}
+use lib.ListN.{length}
+use lib.Seq.{lt-length-set}
+use borrow.Author.Tests.{not-true, not-false}
+use Rattle.board.specs.Registers.{digit}
+use native.Mathlib.Omega.{arith}
+use borrow.Author.Needs.{needs}
+use Rattle.harness_board.proofs.Going.{Going, going-none, going-more, going-halt, going-full}
+use Rattle.harness_board.proofs.run.h_board.Statement.{statement}
+use Rattle.harness_board.proofs.run.h_board.Tie as tie
+
+abbrev Inv-loop : tie.InvT-loop
+Inv-loop ops answers₀ room board₀ at₀ done₀ answers board at done = Going ops answers₀ answers board at done × (room ≡ length answers₀ / 2)
+
+abbrev μ-loop : tie.MeasureT-loop
+μ-loop ops answers₀ room board₀ at₀ done₀ answers board at done = room - done
+
+new-requires : tie.Need-new-requires Inv-loop μ-loop
+new-requires c κs = search needs
+
+loop-holds : tie.Need-loop-holds Inv-loop μ-loop
+loop-holds c = (going-none _ _ _ (c .new .ensures), refl)
+
+step-at-requires : tie.Need-step-at-requires Inv-loop μ-loop
+step-at-requires c κs = search needs
+
+same-length : tie.Need-same-length Inv-loop μ-loop
+same-length c = c .before .before .before .before .loop .inv .0 .kept
+
+returns : tie.Need-returns Inv-loop μ-loop
+returns c = going-halt (c .before .before .before .before .loop .inv .0) (c .before .before .step-at .result) (c .before .before .step-at .ensures) (omega arith) (not-true _ (c .if1 .taken))
+
+mul-answers : tie.Need-mul-answers Inv-loop μ-loop
+mul-answers c = omega arith
+
+mul-answers-2 : tie.Need-mul-answers-2 Inv-loop μ-loop
+mul-answers-2 c = search needs
+
+slice-write-answers : tie.Need-slice-write-answers Inv-loop μ-loop
+slice-write-answers c = omega arith
+
+interrupt-requires : tie.Need-interrupt-requires Inv-loop μ-loop
+interrupt-requires c κs = search needs
+
+bit-requires : tie.Need-bit-requires Inv-loop μ-loop
+bit-requires c κs = search needs
+
+mul-answers-3 : tie.Need-mul-answers-3 Inv-loop μ-loop
+mul-answers-3 c = omega arith
+
+add-answers : tie.Need-add-answers Inv-loop μ-loop
+add-answers c = omega arith
+
+mul-answers-4 : tie.Need-mul-answers-4 Inv-loop μ-loop
+mul-answers-4 c = search needs
+
+slice-write-answers-2 : tie.Need-slice-write-answers-2 Inv-loop μ-loop
+slice-write-answers-2 c =
+    let d = c .before .before .before .before .before .before .before .loop in
+    let h : 2 * d .done + 1 < length (d .answers) = omega (arith, d .inv .0 .kept) in
+    lt-length-set (d .answers) (2 * d .done) _ h
+
+add-done : tie.Need-add-done Inv-loop μ-loop
+add-done c = omega arith
+
+loop-less : tie.Need-loop-less Inv-loop μ-loop
+loop-less c = omega arith
+
+loop-again : tie.Need-loop-again Inv-loop μ-loop
+loop-again c =
+    let d = c .before .before .before .before .before .before .before in
+    (going-more (d .loop .inv .0) (c .before .before .before .before .before .step-at .result) (c .before .before .before .before .before .step-at .ensures) (omega arith) (not-false _ (c .before .before .before .if1 .left)) _ (c .bit .ensures ∙ ap digit (c .before .interrupt .ensures)), d .loop .inv .1)
+
+same-length-2 : tie.Need-same-length-2 Inv-loop μ-loop
+same-length-2 c = c .before .loop .inv .0 .kept
+
+returns-2 : tie.Need-returns-2 Inv-loop μ-loop
+returns-2 c = going-full (c .before .loop .inv .0) (omega arith)
+
+pub h-board-spec : {M : Type 1} → statement M
+h-board-spec =
+    tie.close
+    (tie.spec
+    Inv-loop
+    μ-loop
+    new-requires
+    loop-holds
+    step-at-requires
+    same-length
+    returns
+    mul-answers
+    mul-answers-2
+    slice-write-answers
+    interrupt-requires
+    bit-requires
+    mul-answers-3
+    add-answers
+    mul-answers-4
+    slice-write-answers-2
+    add-done
+    loop-less
+    loop-again
+    same-length-2
+    returns-2)

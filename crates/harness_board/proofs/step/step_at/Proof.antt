@@ -1,0 +1,82 @@
+-- `harness_board::step::step_at` meets its contract. Assumes nothing.
+use mathlib.Core.Path.{_∙_}
+use borrow.Author.Tests.{eq-eqb, ne-eqb}
+use Rattle.harness_board.proofs.Steps.{halts, next-none, next-is}
+use borrow.Author.Needs.{needs}
+use Rattle.harness_board.proofs.step.step_at.Statement.{statement}
+use Rattle.harness_board.proofs.step.step_at.Tie as tie
+
+halt-requires : tie.Need-halt-requires
+halt-requires c κs = search needs
+
+returns : tie.Need-returns
+returns c = halts _ (c .halt .result) _ _ (c .halt .ensures) (next-none _ _ (c .before .if1 .taken))
+
+mul-kind : tie.Need-mul-kind
+mul-kind c = search needs
+
+shared-slice-read-kind : tie.Need-shared-slice-read-kind
+shared-slice-read-kind c = search needs
+
+add-write-step : tie.Need-add-write-step
+add-write-step c = search needs
+
+write-step-requires : tie.Need-write-step-requires
+write-step-requires c κs = search needs
+
+returns-2 : tie.Need-returns-2
+returns-2 c =
+    let a = c .before .before .before .before .before .args in
+    rw (next-is (a .ops .now) (a .at) (c .before .before .before .if1 .left), eq-eqb _ _ (c .before .if2 .taken)) (c .write-step .ensures)
+
+add-read-step : tie.Need-add-read-step
+add-read-step c = search needs
+
+read-step-requires : tie.Need-read-step-requires
+read-step-requires c κs = search needs
+
+returns-3 : tie.Need-returns-3
+returns-3 c =
+    let a = c .before .before .before .before .before .before .args in
+    rw (next-is (a .ops .now) (a .at) (c .before .before .before .before .if1 .left), ne-eqb _ _ (c .before .before .if2 .left), eq-eqb _ _ (c .before .if3 .taken)) (c .read-step .ensures)
+
+tick-requires : tie.Need-tick-requires
+tick-requires c κs = search needs
+
+add-t13 : tie.Need-add-t13
+add-t13 c = search needs
+
+returns-4 : tie.Need-returns-4
+returns-4 c =
+    let a = c .before .before .before .before .before .before .before .before .args in
+    rw (next-is (a .ops .now) (a .at) (c .before .before .before .before .before .before .if1 .left), ne-eqb _ _ (c .before .before .before .before .if2 .left), ne-eqb _ _ (c .before .before .before .if3 .left), eq-eqb _ _ (c .before .before .if4 .taken))
+    (rw (c .before .tick .ensures .after, c .before .tick .ensures .played))
+
+halt-requires-2 : tie.Need-halt-requires-2
+halt-requires-2 c κs = search needs
+
+returns-5 : tie.Need-returns-5
+returns-5 c =
+    let a = c .before .before .before .before .before .before .before .args in
+    halts _ (c .halt2 .result) _ _ (c .halt2 .ensures)
+    (next-is (a .ops .now) (a .at) (c .before .before .before .before .before .if1 .left) ∙ rw (ne-eqb _ _ (c .before .before .before .if2 .left), ne-eqb _ _ (c .before .before .if3 .left), ne-eqb _ _ (c .before .if4 .left)))
+
+pub step-at-spec : {M : Type 1} → statement M
+step-at-spec =
+    tie.close
+    (tie.spec
+    halt-requires
+    returns
+    mul-kind
+    shared-slice-read-kind
+    add-write-step
+    write-step-requires
+    returns-2
+    add-read-step
+    read-step-requires
+    returns-3
+    tick-requires
+    add-t13
+    returns-4
+    halt-requires-2
+    returns-5)

@@ -1,0 +1,20 @@
+-- `harness_board::step::write_through` meets its contract. Assumes nothing.
+use mathlib.Core.Path.{_∙_}
+use borrow.Author.Needs.{needs}
+use Rattle.harness_board.proofs.step.write_through.Statement.{statement}
+use Rattle.harness_board.proofs.step.write_through.Tie as tie
+
+copy-bytes-requires : tie.Need-copy-bytes-requires
+copy-bytes-requires c κs = search needs
+
+write-requires : tie.Need-write-requires
+write-requires c κs = search needs
+
+same-length : tie.Need-same-length
+same-length c = search needs
+
+returns : tie.Need-returns
+returns c = c .write .ensures ∙ rw (c .before .before .before .before .copy-bytes .ensures)
+
+pub write-through-spec : {M : Type 1} → statement M
+write-through-spec = tie.close (tie.spec copy-bytes-requires write-requires same-length returns)
