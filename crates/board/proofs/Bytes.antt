@@ -1,7 +1,7 @@
 -- The sentences of the card about the bytes that are read and the interrupt line. Assumes nothing.
 use Prim.Native.Nat.{ℕ, _+_, _*_, _/_, _%_, _≤_}
 use mathlib.Core.Path.{_≡_, refl}
-use mathlib.Core.Bool.{Bool, true, false, cond, _&&_, _||_}
+use mathlib.Core.Bool.{Bool, true, false, cond, not, _&&_, _||_}
 use native.Mathlib.Omega.{arith}
 use borrow.Author.Tests.{ne-eqb}
 use lib.Dec.{eqb}
@@ -55,6 +55,21 @@ three false true true = (refl, refl, refl)
 three false true false = (refl, refl, refl)
 three false false true = (refl, refl, refl)
 three false false false = (refl, refl, refl)
+
+-- bit 0 or 1 of status stands: its two low bits are not both 0
+either : (l u f : Bool) → not (eqb ((digit l + 2 * digit u + 4 * digit f) % 4) 0) ≡ (l || u)
+either true true true = refl
+either true true false = refl
+either true false true = refl
+either true false false = refl
+either false true true = refl
+either false true false = refl
+either false false true = refl
+either false false false = refl
+
+pub line-by-status : (m : Registers) → m .enable ≡ true → not (eqb (statusOf m % 4) 0) ≡ interruptOf m
+unfolding statusOf interruptOf
+line-by-status m e = rw e (either (low m) (m .underrun) (full m))
 
 -- "Byte 0 control: bit 0 run, bit 1 interrupt enable."
 pub control-bits : (m : Registers) → (bit0 (byteAt m 0) ≡ m .run) × (bit1 (byteAt m 0) ≡ m .enable)

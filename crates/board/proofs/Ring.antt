@@ -5,7 +5,7 @@ use mathlib.Core.List.{List, [], _∷_, _++_}
 use mathlib.Core.Bool.{Bool, true, false, cond}
 use native.Mathlib.Omega.{arith}
 use native.Mathlib.Numerals.{add-one}
-use native.Mathlib.Nat.{suc-mod, mod-add-mod}
+use native.Mathlib.Nat.{suc-mod}
 use borrow.Author.Tests.{ltb-true, ltb-false, eqb-false, lt-ltb, le-ltb}
 use lib.ListN.{length, getD, set}
 use lib.Seq.{getD-set-same, getD-set-other}
@@ -49,13 +49,13 @@ same-place places a b (suc n) e =
     rw (e, same-place places (suc a) (suc b) n s)
 
 -- the queue after its oldest sample was taken, fill samples having waited
-taken-from : (places : List ℕ) (oldest fill : ℕ) → 0 < fill → samplesFrom places oldest fill ≡ getD places (oldest % 64) 0 ∷ samplesFrom places (oldest % 64 + 1) (fill - 1)
+taken-from : (places : List ℕ) (oldest fill : ℕ) → 0 < fill → samplesFrom places oldest fill ≡ getD places (oldest % 64) 0 ∷ samplesFrom places ((oldest + 1) % 64) (fill - 1)
 unfolding samplesFrom
 taken-from places oldest zero h = let z : _≡_ {A = ℕ} 0 1 = omega arith in cc
 taken-from places oldest (suc n) h =
-    let e : suc oldest % 64 ≡ (oldest % 64 + 1) % 64 = omega arith in
+    let e : suc oldest % 64 ≡ (oldest + 1) % 64 % 64 = omega arith in
     let m : suc n - 1 ≡ n = omega arith in
-    rw (m, same-place places (suc oldest) (oldest % 64 + 1) n e)
+    rw (m, same-place places (suc oldest) ((oldest + 1) % 64) n e)
 
 waiting-by : (q : Queue) (n : ℕ) → n ≡ length (waiting q) → waiting q ≡ samplesFrom (q .places) (q .oldest) n
 unfolding waiting
@@ -68,13 +68,6 @@ count-few false n e h = omega (arith, ltb-false n 64 e)
 waiting-few : (places : List ℕ) (oldest n : ℕ) → n ≤ 64 → waiting (record { places = places; oldest = oldest; count = n }) ≡ samplesFrom places oldest n
 unfolding waiting
 waiting-few places oldest n h = ap (samplesFrom places oldest) (count-few (ltb n 64) n refl h)
-
-pub taken-is : (q : Queue) (fill : ℕ) → fill ≡ length (waiting q) → 0 < fill
-    → waiting q ≡ getD (q .places) (q .oldest % 64) 0 ∷ waiting (record { places = q .places; oldest = q .oldest % 64 + 1; count = fill - 1 })
-taken-is q fill e h =
-    let few : fill - 1 ≤ 64 = omega (arith, fill-most q) in
-    let others = waiting-few (q .places) (q .oldest % 64 + 1) (fill - 1) few in
-    waiting-by q fill e ∙ taken-from (q .places) (q .oldest) fill h ∙ ap (λ (l : List ℕ). getD (q .places) (q .oldest % 64) 0 ∷ l) (sym others)
 
 -- a sample put behind n others, which leave a place free
 put-at : (places : List ℕ) (oldest n sample : ℕ) → n < 64 → length places ≡ 64
@@ -89,10 +82,19 @@ put-at places oldest (suc n) sample h l =
     let d : oldest % 64 ≡ (suc oldest + n) % 64 → ⊥ = λ p. omega arith in
     rw (e, getD-set-other places ((suc oldest + n) % 64) (oldest % 64) sample 0 d, put-at places (suc oldest) n sample (omega arith) l)
 
-pub put-is : (q : Queue) (fill sample : ℕ) → fill ≡ length (waiting q) → fill < 64 → length (q .places) ≡ 64
-    → waiting (record { places = set (q .places) ((q .oldest % 64 + fill) % 64) sample; oldest = q .oldest; count = fill + 1 }) ≡ waiting q ++ (sample ∷ [])
-put-is q fill sample e h l =
-    let n : fill + 1 ≤ 64 = omega arith in
-    waiting-few (set (q .places) ((q .oldest % 64 + fill) % 64) sample) (q .oldest) (fill + 1) n
-    ∙ rw (mod-add-mod, add-one) (put-at (q .places) (q .oldest) fill sample h l)
-    ∙ ap (λ (w : List ℕ). w ++ (sample ∷ [])) (sym (waiting-by q fill e))
+module _ (q : Queue) (fill : ℕ) (is : fill ≡ length (waiting q)) where
+  pub taken-is : (first second : ℕ) → first ≡ (q .oldest + 0) % 64 → second ≡ (q .oldest + 1) % 64 → 0 < fill
+      → waiting q ≡ getD (q .places) first 0 ∷ waiting (record { places = q .places; oldest = second; count = fill - 1 })
+  taken-is first second e f h =
+      let z : q .oldest + 0 ≡ q .oldest = omega arith in
+      let few : fill - 1 ≤ 64 = omega (arith, fill-most q) in
+      let others = waiting-few (q .places) ((q .oldest + 1) % 64) (fill - 1) few in
+      rw (e, f, z) (waiting-by q fill is ∙ taken-from (q .places) (q .oldest) fill h ∙ ap (λ (l : List ℕ). getD (q .places) (q .oldest % 64) 0 ∷ l) (sym others))
+
+  pub put-is : (next sample : ℕ) → next ≡ (q .oldest + fill) % 64 → fill < 64 → length (q .places) ≡ 64
+      → waiting (record { places = set (q .places) next sample; oldest = q .oldest; count = fill + 1 }) ≡ waiting q ++ (sample ∷ [])
+  put-is next sample e h l =
+      let n : fill + 1 ≤ 64 = omega arith in
+      waiting-few (set (q .places) next sample) (q .oldest) (fill + 1) n
+      ∙ rw (e, add-one) (put-at (q .places) (q .oldest) fill sample h l)
+      ∙ ap (λ (w : List ℕ). w ++ (sample ∷ [])) (sym (waiting-by q fill is))

@@ -2,7 +2,7 @@
 // samples between.
 ghost use mathlib.Core.Path.{_≡_};
 ghost use mathlib.Core.List.{[], _∷_, _++_};
-ghost use Prim.Native.Nat.{_<_};
+ghost use Prim.Native.Nat.{_+_, _%_, _<_};
 ghost use lib.ListN.{length};
 ghost use Rattle.board.specs.Queue.{waiting};
 
@@ -39,13 +39,20 @@ impl Queue {
         if self.count < 64 { self.count } else { 64 }
     }
 
+    // The place of the k-th sample that waits, the oldest being the 0th.
+    fn place(self, k: usize) -> usize
+        ensures { λ r. ⌜ r ≡ (self .oldest + k) % 64 ⌝ }
+    {
+        (self.oldest % 64 + k % 64) % 64
+    }
+
     // With one sample more, behind those that wait.
     pub(crate) fn put(mut self, sample: u32) -> Queue
         requires { ⌜ length (waiting self) < 64 ⌝ }
         ensures { λ r. ⌜ waiting r ≡ waiting self ++ (sample ∷ []) ⌝ }
     {
         let fill = self.fill();
-        let next = (self.oldest % 64 + fill) % 64;
+        let next = self.place(fill);
         self.places[next] = sample;
         self.count = fill + 1;
         self
@@ -56,10 +63,11 @@ impl Queue {
         ensures { λ r. ⌜ waiting self ≡ r .sample ∷ waiting (r .queue) ⌝ }
     {
         let fill = self.fill();
-        let at = self.oldest % 64;
-        let sample = self.places[at];
-        self.oldest = at + 1;
-        self.count = fill - 1;
+        let others = fill - 1;
+        let first = self.place(0);
+        let sample = self.places[first];
+        self.oldest = self.place(1);
+        self.count = others;
         Taken {
             queue: self,
             sample,

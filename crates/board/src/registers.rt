@@ -204,10 +204,7 @@ impl Board {
         ensures { λ r. ⌜ r ≡ interruptOf (registers self) ⌝ }
     {
         if self.enable {
-            if self.is_low() {
-                return true;
-            }
-            return self.underrun;
+            return self.status() % 4 != 0;
         }
         false
     }

@@ -13,7 +13,7 @@ use Rattle.board.specs.Answer.{numberOf}
 use Rattle.board.specs.Registers.{Registers, registers}
 use Rattle.board.specs.Write.{Written, writeOf, written}
 use Rattle.board.specs.declared.registers.Write.{Write}
-use Rattle.harness_board.specs.Words.{Next, next, stop, write, read, tick, allBytes, writeIn, readIn, nextOf}
+use Rattle.harness_board.specs.Words.{Next, next, stop, write, read, tick, allBytes, writeIn, readIn, nextBy, nextOf}
 use Rattle.harness_board.specs.Ran.{went, stepOf, stepped}
 use Rattle.harness_board.specs.declared.step.Step.{Step}
 
@@ -52,12 +52,11 @@ module _ (ops : List ℕ) (at : ℕ) where
     write-next : count ≤ length ops - (at + 2) → allBytes bytes ≡ true → writeIn (drop at ops) ≡ next (write (getD ops at 0) bytes) (drop (at + 2 + count) ops)
     write-next h b = write-is ∙ rw (le-leb count (length ops - (at + 2)) h, b)
 
-    pub write-done : (m : Registers) (w : Write) (number : ℕ) → count ≤ length ops - (at + 2) → allBytes bytes ≡ true → written w ≡ writeOf m (getD ops at 0) bytes → number ≡ numberOf (w .outcome)
+    pub write-done : (m : Registers) (w : Write) (number : ℕ) → count ≤ length ops - (at + 2) → allBytes bytes ≡ true
+        → written w ≡ writeOf m (getD ops at 0) bytes → number ≡ numberOf (w .outcome)
         → went (record { after = registers (w .board); answer = number }) (drop (at + 2 + count) ops) ≡ stepOf m (writeIn (drop at ops))
     write-done m w number h b e n =
-        let g : went (record { after = registers (w .board); answer = numberOf (w .outcome) }) (drop (at + 2 + count) ops) ≡ stepOf m (next (write (getD ops at 0) bytes) (drop (at + 2 + count) ops)) =
-        ap (λ (v : Written). went (record { after = v .after; answer = numberOf (v .outcome) }) (drop (at + 2 + count) ops)) e in
-        rw (n, write-next h b) g
+        rw (n, write-next h b) (ap (λ (v : Written). went (record { after = v .after; answer = numberOf (v .outcome) }) (drop (at + 2 + count) ops)) e)
 
   pub read-cut : at ≡ length ops → readIn (drop at ops) ≡ stop
   read-cut e = let h : length ops ≤ at = omega arith in rw (drop-of-length-le ops h)
@@ -70,6 +69,6 @@ module _ (ops : List ℕ) (at : ℕ) where
   next-none h = rw (drop-of-length-le ops h)
 
   -- the operation by its first word
-  pub next-is : at < length ops → nextOf (drop at ops) ≡ (let kind = getD ops at 0 in let ws = drop (at + 1) ops in cond (eqb kind 0) (writeIn ws) (cond (eqb kind 1) (readIn ws) (cond (eqb kind 2) (next tick ws) stop)))
+  pub next-is : at < length ops → nextOf (drop at ops) ≡ nextBy (getD ops at 0) (drop (at + 1) ops)
   unfolding nextOf
   next-is h = rw (add-one, drop-cons ops at 0 h)

@@ -30,6 +30,10 @@ abbrev pub readIn : List ℕ → Next
 readIn [] = stop
 readIn (place ∷ ws) = next (read place) ws
 
+-- by the first word
+abbrev pub nextBy : ℕ → List ℕ → Next
+nextBy kind ws = cond (eqb kind 0) (writeIn ws) (cond (eqb kind 1) (readIn ws) (cond (eqb kind 2) (next tick ws) stop))
+
 unfoldable pub nextOf : List ℕ → Next
 nextOf [] = stop
-nextOf (kind ∷ ws) = cond (eqb kind 0) (writeIn ws) (cond (eqb kind 1) (readIn ws) (cond (eqb kind 2) (next tick ws) stop))
+nextOf (kind ∷ ws) = nextBy kind ws

@@ -1,6 +1,5 @@
-// A board under a C name: a list of operations as words, for the comparison with Rust. No customer
-// links this.
+// A list of operations on a board, as words: what `h_board` of the harness runs.
 mod run; // run.rt: the operations one after the other
 mod step; // step.rt: one operation
 
-pub use run::h_board;
+pub use run::run_board;

@@ -12,11 +12,10 @@ fn bit(on: bool) -> u32
 }
 
 // Runs operations on a new board: `0 place count byte..` is a write, `1 place` a read, `2` a tick.
-// Each answers two words: a write's number, a read's byte or a tick's sample bits; then the interrupt
-// line after it. The answer is how many operations were done; it stops before one that is cut off, is
-// none of these, has a byte above 255, or whose answers have no room.
-#[no_mangle]
-pub extern "C" fn h_board(ops: &[u32], answers: &mut [u32]) -> usize
+// Each answers two words: a write's number, a read's byte or a tick's sample bits; then the
+// interrupt line after it. The answer is how many operations were done; it stops before one that
+// is cut off, is none of these, has a byte above 255, or whose answers have no room.
+pub fn run_board(ops: &[u32], answers: &mut [u32]) -> usize
     ensures { λ r. ⌜ Ran (now (ops .entry)) (now (answers .entry)) r (now (answers .exit)) ⌝ }
 {
     let room = answers.len() / 2;

@@ -38,7 +38,8 @@ read-step-requires c κs = search needs
 returns-3 : tie.Need-returns-3
 returns-3 c =
     let a = c .before .before .before .before .before .before .args in
-    rw (next-is (a .ops .now) (a .at) (c .before .before .before .before .if1 .left), ne-eqb _ _ (c .before .before .if2 .left), eq-eqb _ _ (c .before .if3 .taken)) (c .read-step .ensures)
+    let n = next-is (a .ops .now) (a .at) (c .before .before .before .before .if1 .left) in
+    rw (n, ne-eqb _ _ (c .before .before .if2 .left), eq-eqb _ _ (c .before .if3 .taken)) (c .read-step .ensures)
 
 tick-requires : tie.Need-tick-requires
 tick-requires c κs = search needs
@@ -49,7 +50,8 @@ add-t13 c = search needs
 returns-4 : tie.Need-returns-4
 returns-4 c =
     let a = c .before .before .before .before .before .before .before .before .args in
-    rw (next-is (a .ops .now) (a .at) (c .before .before .before .before .before .before .if1 .left), ne-eqb _ _ (c .before .before .before .before .if2 .left), ne-eqb _ _ (c .before .before .before .if3 .left), eq-eqb _ _ (c .before .before .if4 .taken))
+    let n = next-is (a .ops .now) (a .at) (c .before .before .before .before .before .before .if1 .left) in
+    rw (n, ne-eqb _ _ (c .before .before .before .before .if2 .left), ne-eqb _ _ (c .before .before .before .if3 .left), eq-eqb _ _ (c .before .before .if4 .taken))
     (rw (c .before .tick .ensures .after, c .before .tick .ensures .played))
 
 halt-requires-2 : tie.Need-halt-requires-2
@@ -58,8 +60,9 @@ halt-requires-2 c κs = search needs
 returns-5 : tie.Need-returns-5
 returns-5 c =
     let a = c .before .before .before .before .before .before .before .args in
+    let n = next-is (a .ops .now) (a .at) (c .before .before .before .before .before .if1 .left) in
     halts _ (c .halt2 .result) _ _ (c .halt2 .ensures)
-    (next-is (a .ops .now) (a .at) (c .before .before .before .before .before .if1 .left) ∙ rw (ne-eqb _ _ (c .before .before .before .if2 .left), ne-eqb _ _ (c .before .before .if3 .left), ne-eqb _ _ (c .before .if4 .left)))
+    (n ∙ rw (ne-eqb _ _ (c .before .before .before .if2 .left), ne-eqb _ _ (c .before .before .if3 .left), ne-eqb _ _ (c .before .if4 .left)))
 
 pub step-at-spec : {M : Type 1} → statement M
 step-at-spec =

@@ -10,8 +10,8 @@ use Rattle.board.proofs.queue.Queue.put.Tie as tie
 fill-requires : tie.Need-fill-requires
 fill-requires c κs = search needs
 
-add-next : tie.Need-add-next
-add-next c = search needs
+place-requires : tie.Need-place-requires
+place-requires c κs = search needs
 
 mul-self : tie.Need-mul-self
 mul-self c = search needs
@@ -24,9 +24,12 @@ add-self c = search needs
 
 returns : tie.Need-returns
 returns c =
-    let fill : c .fill .result < 64 = search needs in
-    let places : length (c .before .args .t1 .places) ≡ 64 = search needs in
-    put-is (c .before .args .t1) (c .fill .result) (c .before .args .sample) (c .fill .ensures) fill places
+    let q = c .before .before .args .t1 in
+    let f = c .before .fill in
+    let fill : f .result < 64 = search needs in
+    let places : length (q .places) ≡ 64 = search needs in
+    put-is q (f .result) (f .ensures) (c .place .result) (c .before .before .args .sample) (c .place .ensures) fill places
 
 pub put-spec : {M : Type 1} → statement M
-put-spec = tie.close (tie.spec fill-requires add-next mul-self element-write-self add-self returns)
+put-spec =
+    tie.close (tie.spec fill-requires place-requires mul-self element-write-self add-self returns)

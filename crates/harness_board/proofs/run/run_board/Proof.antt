@@ -1,4 +1,4 @@
--- `harness_board::run::h_board` meets its contract. Assumes nothing.
+-- `harness_board::run::run_board` meets its contract. Assumes nothing.
 use mathlib.Core.Path.{_≡_, _∙_, refl, ap}
 use Prim.Native.Nat.{_+_, _*_, _-_, _/_, _<_}
 use lib.ListN.{length}
@@ -8,8 +8,8 @@ use Rattle.board.specs.Registers.{digit}
 use native.Mathlib.Omega.{arith}
 use borrow.Author.Needs.{needs}
 use Rattle.harness_board.proofs.Going.{Going, going-none, going-more, going-halt, going-full}
-use Rattle.harness_board.proofs.run.h_board.Statement.{statement}
-use Rattle.harness_board.proofs.run.h_board.Tie as tie
+use Rattle.harness_board.proofs.run.run_board.Statement.{statement}
+use Rattle.harness_board.proofs.run.run_board.Tie as tie
 
 abbrev Inv-loop : tie.InvT-loop
 Inv-loop ops answers₀ room board₀ at₀ done₀ answers board at done = Going ops answers₀ answers board at done × (room ≡ length answers₀ / 2)
@@ -70,8 +70,10 @@ loop-less c = omega arith
 
 loop-again : tie.Need-loop-again Inv-loop μ-loop
 loop-again c =
-    let d = c .before .before .before .before .before .before .before in
-    (going-more (d .loop .inv .0) (c .before .before .before .before .before .step-at .result) (c .before .before .before .before .before .step-at .ensures) (omega arith) (not-false _ (c .before .before .before .if1 .left)) _ (c .bit .ensures ∙ ap digit (c .before .interrupt .ensures)), d .loop .inv .1)
+    let s = c .before .before .before .before .before .step-at in
+    let h = c .before .before .before .before .before .before .before .loop .inv in
+    let line = c .bit .ensures ∙ ap digit (c .before .interrupt .ensures) in
+    (going-more (h .0) (s .result) (s .ensures) (omega arith) (not-false _ (c .before .before .before .if1 .left)) _ line, h .1)
 
 same-length-2 : tie.Need-same-length-2 Inv-loop μ-loop
 same-length-2 c = c .before .loop .inv .0 .kept
@@ -79,8 +81,8 @@ same-length-2 c = c .before .loop .inv .0 .kept
 returns-2 : tie.Need-returns-2 Inv-loop μ-loop
 returns-2 c = going-full (c .before .loop .inv .0) (omega arith)
 
-pub h-board-spec : {M : Type 1} → statement M
-h-board-spec =
+pub run-board-spec : {M : Type 1} → statement M
+run-board-spec =
     tie.close
     (tie.spec
     Inv-loop
