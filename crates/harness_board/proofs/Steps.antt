@@ -8,12 +8,12 @@ use native.Mathlib.Numerals.{add-one}
 use borrow.Author.Tests.{le-leb, lt-leb}
 use lib.ListN.{length, getD, take, drop, length-drop, drop-of-length-le}
 use lib.Seq.{drop-cons, drop-drop}
-use lib.Dec.{leb, eqb}
+use lib.Dec.{leb}
 use Rattle.board.specs.Answer.{numberOf}
 use Rattle.board.specs.Registers.{Registers, registers}
 use Rattle.board.specs.Write.{Written, writeOf, written}
 use Rattle.board.specs.declared.registers.Write.{Write}
-use Rattle.harness_board.specs.Words.{Next, next, stop, write, read, tick, allBytes, writeIn, readIn, nextBy, nextOf}
+use Rattle.harness_board.specs.Words.{Next, next, stop, write, read, allBytes, writeIn, readIn, nextBy, nextOf}
 use Rattle.harness_board.specs.Ran.{went, stepOf, stepped}
 use Rattle.harness_board.specs.declared.step.Step.{Step}
 
