@@ -1,5 +1,5 @@
-// The converter's registers: the output board of a rig as a value, a block of eight bytes with a queue
-// of 64 samples.
+// The converter's registers: the output board of a rig as a value, a block of eight bytes with a
+// queue of 64 samples.
 //
 //   let board = Board::new();
 //   let write = board.write(4, &[0, 0, 128, 63]); // a sample, 1.0

@@ -1,5 +1,5 @@
-// The samples that wait, first in, first out: 64 places in a ring, so that neither end ever moves the
-// samples between.
+// The samples that wait, first in, first out: 64 places in a ring, so that neither end ever moves
+// the samples between.
 ghost use mathlib.Core.Path.{_≡_};
 ghost use mathlib.Core.List.{[], _∷_, _++_};
 ghost use Prim.Native.Nat.{_+_, _%_, _<_};

@@ -1,4 +1,5 @@
-// The board: control, underrun and low-water mark, and the queue. Status and fill are read off these.
+// The board: control, underrun and low-water mark, and the queue. Status and fill are read off
+// these.
 ghost use mathlib.Core.Path.{_≡_};
 ghost use mathlib.Core.Bool.{cond};
 ghost use Prim.Native.Nat.{_≤_};

@@ -11,8 +11,8 @@ use board::Board;
 use board::Write;
 use board::WriteOutcome;
 
-// The board after an operation, its first word and where the next operation starts. Where there is no
-// operation, or a malformed one, `going` is false and the rest is free.
+// The board after an operation, its first word and where the next operation starts. Where there is
+// no operation, or a malformed one, `going` is false and the rest is free.
 pub(crate) struct Step {
     pub(crate) board: Board,
     pub(crate) answer: u32,
