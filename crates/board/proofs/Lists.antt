@@ -7,36 +7,14 @@ use native.Mathlib.Omega.{arith}
 use lib.ListN.{length}
 use Rattle.board.specs.Registers.{Registers, registers, full}
 use Rattle.board.specs.Shape.{covers, byteFor, isSample, sampleOf, permitted}
-use Rattle.board.specs.Write.{Written, bit1, stored, queued, taken, refused, sampled, other, writeOf}
+use Rattle.board.specs.Write.{Written, stored, queued, taken, refused, sampled, other, writeOf}
 use Rattle.board.specs.Claim.{Event, Run, none, wrote, ticked}
 use Rattle.board.specs.declared.registers.Board.{Board}
 use Rattle.board.specs.declared.answer.WriteOutcome.the-variants.{QueueFull, Invalid}
-use Rattle.board.proofs.Writes.{permitted-mark, sample-alone}
+use Rattle.board.proofs.Writes.{permitted-mark}
 use Rattle.board.proofs.Ticks.{tick-mark}
 
 module _ (m : Registers) (place : ℕ) (bytes : List ℕ) where
-  -- "Writing 1 to underrun clears it": exactly an accepted write of status whose bit 1 stands
-  abbrev Clears : Bool → Written → Type 0
-  Clears p w = w .after .underrun ≡ cond p (cond (bit1 (byteFor place bytes 1)) false (m .underrun)) (m .underrun)
-
-  sample-clears : (f : Bool) → Clears false (cond f (refused m QueueFull) (taken (queued m (sampleOf bytes))))
-  sample-clears true = refl
-  sample-clears false = refl
-
-  other-clears : (p : Bool) → Clears p (cond p (taken (stored m place bytes)) (refused m Invalid))
-  unfolding stored
-  other-clears true = refl
-  other-clears false = refl
-
-  clears-by : (s : Bool) → isSample place bytes ≡ s → Clears (permitted place bytes) (cond s (sampled m (sampleOf bytes)) (other m place bytes))
-  unfolding sampled
-  clears-by true e = rw (sample-alone m place bytes e) (sample-clears (full m))
-  clears-by false e = other-clears (permitted place bytes)
-
-  pub write-underrun : Clears (permitted place bytes) (writeOf m place bytes)
-  unfolding writeOf
-  write-underrun = clears-by (isSample place bytes) refl
-
   -- "the low-water mark, 0 to 63"
   abbrev Low : Written → Type 0
   Low w = m .mark ≤ 63 → w .after .mark ≤ 63

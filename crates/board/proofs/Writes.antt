@@ -119,6 +119,28 @@ module _ (m : Registers) (place : ℕ) (bytes : List ℕ) where
       let at : place ≡ 4 = eqb-true place 4 (and-both (eqb place 4) (eqb (length bytes) 4) e .0) in
       not-true (permitted place bytes) (λ p. omega (arith, permitted-end place bytes p))
 
+  -- "Writing 1 to underrun clears it": exactly an accepted write of status whose bit 1 stands
+  abbrev Clears : Bool → Written → Type 0
+  Clears p w = w .after .underrun ≡ cond p (cond (bit1 (byteFor place bytes 1)) false (m .underrun)) (m .underrun)
+
+  sample-clears : (f : Bool) → Clears false (cond f (refused m QueueFull) (taken (queued m (sampleOf bytes))))
+  sample-clears true = refl
+  sample-clears false = refl
+
+  other-clears : (p : Bool) → Clears p (cond p (taken (stored m place bytes)) (refused m Invalid))
+  unfolding stored
+  other-clears true = refl
+  other-clears false = refl
+
+  clears-by : (s : Bool) → isSample place bytes ≡ s → Clears (permitted place bytes) (cond s (sampled m (sampleOf bytes)) (other m place bytes))
+  unfolding sampled
+  clears-by true e = rw (sample-alone e) (sample-clears (full m))
+  clears-by false e = other-clears (permitted place bytes)
+
+  pub write-underrun : Clears (permitted place bytes) (writeOf m place bytes)
+  unfolding writeOf
+  write-underrun = clears-by (isSample place bytes) refl
+
   -- "It refuses a sample written to a full queue with 38"
   pub full-refused : isSample place bytes ≡ true → fill m ≡ 64 → writeOf m place bytes ≡ refused m QueueFull
   unfolding sampled
