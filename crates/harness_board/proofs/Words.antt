@@ -1,19 +1,16 @@
 -- Words that are bytes, tested and copied one by one. Assumes nothing.
 use Prim.Native.Nat.{ℕ, zero, suc, _+_, _≤_, _<_}
-use mathlib.Core.Path.{_≡_, refl, sym, ap, _∙_}
+use mathlib.Core.Path.{_≡_, sym, ap, _∙_}
 use mathlib.Core.List.{List, [], _∷_, _++_, append-nil, append-assoc}
-use mathlib.Core.Bool.{Bool, true, false, _&&_}
+use mathlib.Core.Bool.{true, false, _&&_}
 use native.Mathlib.Omega.{arith}
 use native.Mathlib.Numerals.{add-one}
 use borrow.Author.Tests.{ltb-true, lt-ltb, le-ltb}
 use lib.ListN.{length, getD, set, take, drop, drop-of-length-le}
 use lib.Seq.{drop-cons, take-suc, take-all, set-at, length-take-le}
 use lib.Dec.{ltb}
+use Rattle.board.proofs.Shapes.{and-both}
 use Rattle.harness_board.specs.Words.{allBytes}
-
-and-both : (x y : Bool) → (x && y) ≡ true → (x ≡ true) × (y ≡ true)
-and-both true y e = (refl, e)
-and-both false y e = let z : true ≡ false = sym e in (cc, cc)
 
 -- each of words that are all bytes is one
 pub byte-at : (ws : List ℕ) (i : ℕ) → allBytes ws ≡ true → i < length ws → getD ws i 0 < 256
