@@ -1,7 +1,7 @@
 //! Every comparison in one run, with one table at the end.
 
 use crate::engine::Count;
-use crate::{helpers, kernels, note_calls, progress, random, score_calls, texts, voices};
+use crate::{boards, helpers, kernels, note_calls, progress, random, score_calls, texts, voices};
 use std::process::{Command, Stdio};
 
 const DAMAGED: &str = concat!(env!("CARGO_MANIFEST_DIR"), "/robust/run");
@@ -11,7 +11,7 @@ const TEXTS: u64 = 1_000_000;
 /// One row of the table: what is compared, with what, and the run of one case in a number.
 type Part = (&'static str, &'static str, fn(u64) -> Count);
 
-const PARTS: [Part; 7] = [
+const PARTS: [Part; 8] = [
     ("float helpers", "Rust's operations", helpers::run),
     ("kernels", "det.rs", |scale| {
         kernels::run_all(kernels::COUNT.div_ceil(scale), scale)
@@ -30,6 +30,9 @@ const PARTS: [Part; 7] = [
     }),
     ("damaged texts from C", "01's text call", |scale| {
         damaged(TEXTS.div_ceil(scale))
+    }),
+    ("operations on a board", "the request's words", |scale| {
+        boards::run(boards::COUNT.div_ceil(scale))
     }),
 ];
 

@@ -39,6 +39,12 @@ mod raw {
             reply: *mut u8,
             reply_len: usize,
         ) -> i64;
+        pub fn h_board(
+            ops: *const u32,
+            ops_len: usize,
+            answers: *mut u32,
+            answers_len: usize,
+        ) -> usize;
         pub fn h_note(
             rate: u32,
             wave: u32,
@@ -181,4 +187,10 @@ pub fn h_score(args: ScoreArgs) -> u32 {
 pub fn tono_play(score: &[u8], reply: &mut [u8]) -> i64 {
     // As above.
     unsafe { raw::tono_play(score.as_ptr(), score.len(), reply.as_mut_ptr(), reply.len()) }
+}
+
+/// A list of operations on a new board: how many were done.
+pub fn h_board(ops: &[u32], answers: &mut [u32]) -> usize {
+    // As above.
+    unsafe { raw::h_board(ops.as_ptr(), ops.len(), answers.as_mut_ptr(), answers.len()) }
 }

@@ -2,6 +2,10 @@
 
 mod all;
 mod bench;
+mod board_random;
+mod board_reference;
+mod board_vectors;
+mod boards;
 mod borders;
 mod cases;
 mod dsp;
@@ -63,6 +67,8 @@ const USAGE: &str =
        compare notes [COUNT]     COUNT note calls of every outcome, 10^6 by default
        compare scores [COUNT]    COUNT score calls in lists, 10^6 by default
        compare texts [COUNT]     COUNT text scores and damaged ones, 10^6 by default
+       compare boards [COUNT]    COUNT operations on a board in lists, 10^7 by default
+       compare board-vectors     writes the replay files of crates/board_vectors
        compare cases FIRST COUNT damaged text scores with their answers, for robust/host.c
        compare listing           the listing that 01 asks of the text score on standard input
        compare groove-vectors    writes the replay files of crates/groove_vectors
@@ -96,6 +102,9 @@ fn main() -> ExitCode {
         ["scores", count] => counted(count, score_calls::run),
         ["texts"] => status(texts::run(texts::COUNT)),
         ["texts", count] => counted(count, texts::run),
+        ["boards"] => status(boards::run(boards::COUNT)),
+        ["boards", count] => counted(count, boards::run),
+        ["board-vectors"] => written(board_vectors::run()),
         ["cases", first, count] => streamed(first, count),
         ["listing"] => written(listing()),
         ["libm"] => done(libm::run(1)),
