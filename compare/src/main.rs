@@ -6,6 +6,7 @@ mod borders;
 mod cases;
 mod dsp;
 mod engine;
+mod exponential;
 mod groove_cases;
 mod groove_vectors;
 mod growth;

@@ -1,6 +1,6 @@
 -- `det::exponential::exp_from` meets its contract. Assumes nothing.
 use borrow.Author.Needs.{needs}
-use Rattle.det.specs.Exp.{expFrom}
+use Rattle.det.specs.Exp.{lessLn2, expNear, expFrom}
 use Rattle.float.proofs.Signed.{back}
 use Rattle.det.proofs.exponential.exp_from.Statement.{statement}
 use Rattle.det.proofs.exponential.exp_from.Tie as tie
@@ -8,12 +8,12 @@ use Rattle.det.proofs.exponential.exp_from.Tie as tie
 rounded-to-i64-requires : tie.Need-rounded-to-i64-requires
 rounded-to-i64-requires c κs = search needs
 
-ldexp2-requires : tie.Need-ldexp2-requires
-ldexp2-requires c κs = search needs
+scaled-requires : tie.Need-scaled-requires
+scaled-requires c κs = search needs
 
 returns : tie.Need-returns
-unfolding expFrom
-returns c = let d = c .before in rw (c .ldexp2 .ensures, back (d .rounded-to-i64 .result) (d .rounded-to-i64 .ok), d .rounded-to-i64 .ensures)
+unfolding lessLn2 expNear expFrom
+returns c = let d = c .before in rw (c .scaled .ensures, back (d .rounded-to-i64 .result) (d .rounded-to-i64 .ok), d .rounded-to-i64 .ensures)
 
 pub exp-from-spec : {M : Type 1} → statement M
-exp-from-spec = tie.close (tie.spec rounded-to-i64-requires ldexp2-requires returns)
+exp-from-spec = tie.close (tie.spec rounded-to-i64-requires scaled-requires returns)
