@@ -1,30 +1,30 @@
 -- Use where a reply is to be long enough for every listing: `listing-most`. A listing is longest where all 2,048 frames are printed, each with 16 bytes at most, after a G line
 -- of 40 bytes at most. Assumes nothing.
 use Prim.Native.Nat.{ℕ, zero, suc, _+_, _-_, _^_, _≤_, _<_}
-use mathlib.Core.Path.{_≡_, refl, sym, ap, _∙_}
-use mathlib.Core.List.{List, [], _∷_, _++_, map}
+use mathlib.Core.Path.{_≡_, refl, ap, _∙_}
+use mathlib.Core.List.{List, _++_}
 use mathlib.Core.Bool.{Bool, true, false, cond}
 use native.Mathlib.Omega.{arith}
 use borrow.Author.Tests.{le-ltb, ltb-false, leb-true}
-use lib.Dec.{T, leb, ltb}
+use lib.Dec.{leb}
 use lib.Ieee.{Float}
 use lib.ListN.{length, drop}
 use Rattle.rng.specs.SplitMix64.{stateAfter}
 use Rattle.dsl.specs.declared.note.Decoded.{Decoded}
-use Rattle.dsl.proofs.Cases.{by-kind}
+use Rattle.dsl.specs.declared.note.Decoded.the-variants.{Note, NoKind}
 use Rattle.mix.proofs.Mixing.{silence-length, mixed-length}
 use Rattle.outcome.specs.Answer.{Result, accepted, unless, numberOf, framesIn}
 use Rattle.outcome.specs.declared.answer.Refusal.{Refusal}
-use Rattle.outcome.specs.declared.answer.Refusal.the-variants.{Kind, Draws}
+use Rattle.outcome.specs.declared.answer.Refusal.the-variants.{Rate, Frames, Tempo, StepsPerBeat, Groove, Knobs, Words, Kind, Steps, Size, Lane, Reach, NoPitch, Lengths}
+use Rattle.outcome.specs.declared.answer.Refusal.the-variants.{NoteBuffer, StringBuffer, Draws}
 use Rattle.outcome.specs.declared.answer.Verdict.{Verdict}
 use Rattle.outcome.specs.declared.answer.Verdict.the-variants.{Fine, Refuse}
-use Rattle.outcome.specs.First.{Test, _⇒_, firstOf, orElse, firstRefusal}
 use Rattle.outcome.proofs.First.{none-holds, or-fine}
-use Rattle.score.specs.Score.{Score, rateIn, noteIn, noteCount, notesIn, place, skips, scoreDraws}
-use Rattle.score.specs.Refusals.{callTests, noteTests, noteRefusal, refusal, refusalAt}
+use Rattle.score.specs.Score.{Score, rateIn, noteIn, noteCount, place, skips, scoreDraws}
+use Rattle.score.specs.Refusals.{refusal, refusalAt}
 use Rattle.score.specs.declared.seq.Seq.{Seq}
 use Rattle.tally.specs.Alone.{aloneOf}
-use Rattle.tally.specs.Tally.{Taken, takenNote, taken, takenAfter, allTaken, tallied, newDraw, tally}
+use Rattle.tally.specs.Tally.{Taken, taken, takenAfter, allTaken, tallied, newDraw, tally}
 use Rattle.tally.proofs.AllCalls.{taken-whole}
 use Rattle.text_listing.specs.Lines.{printedR}
 use Rattle.text_listing.proofs.Listings.{refusal-length, listing-length}
@@ -35,48 +35,25 @@ use Rattle.text.specs.declared.call.Reply.the-variants.{Listing, Short}
 use Rattle.text.proofs.Refused.{unrefused-read}
 use Rattle.text.specs.Listing.{callOf, shownAt, played, textRefusal, playedRead, unlessRefused, listing}
 
--- ---- no refusal of a score has a number of three digits
-abbrev Small : Verdict → Type 0
-Small v = (r : Refusal) → v ≡ Refuse r → numberOf r ≤ 99
-
--- of a list of tests: computes to true at a written one
-abbrev small : List Test → Bool
-small [] = true
-small (t ∷ ts) = cond (leb (numberOf (t .refusal)) 99) (small ts) false
-
-same-number : {x r : Refusal} → Refuse x ≡ Refuse r → numberOf x ≤ 99 → numberOf r ≤ 99
-same-number {x} {r} e h = let z : x ≡ r = cc in rw z at h
-
-small-or : (v w : Verdict) → Small v → Small w → Small (orElse v w)
-small-or Fine w a b = b
-small-or (Refuse x) w a b = a
-
-small-first : (ts : List Test) → T (small ts) → Small (firstOf ts)
-unfolding firstOf
-small-first [] h = λ r e. absurd (let z : _≡_ {A = ℕ} 0 1 = cc in omega arith)
-small-first (t ∷ ts) h = here (t .holds) (leb (numberOf (t .refusal)) 99) refl h (small-first ts)
-  where
-    here : (b c : Bool) → leb (numberOf (t .refusal)) 99 ≡ c → T (cond c (small ts) false) → (T (small ts) → Small (firstOf ts)) → Small (cond b (Refuse (t .refusal)) (firstOf ts))
-    here true true q h rest = λ r e. same-number e (leb-true (numberOf (t .refusal)) 99 q)
-    here false true q h rest = rest h
-    here b false q h rest = absurd h
-
-small-all : (f : Decoded → Verdict) → ((e : Decoded) → Small (f e)) → (l : List Decoded) → Small (firstRefusal (map f l))
-unfolding firstRefusal
-small-all f each [] = λ r e. absurd (let z : _≡_ {A = ℕ} 0 1 = cc in omega arith)
-small-all f each (x ∷ xs) = small-or (f x) (firstRefusal (map f xs)) (each x) (small-all f each xs)
-
-module _ (s : Score) where
-  small-note : (e : Decoded) → Small (noteRefusal s e)
-  unfolding noteRefusal
-  small-note = by-kind (λ e. Small (noteRefusal s e)) (λ m. small-first (noteTests s m) tt)
-      (λ e none r q. same-number (sym (none .other (Refuse Kind) (λ m. firstOf (noteTests s m))) ∙ q) (omega arith))
-
-  score-small : (d : ℕ) → Small (refusalAt s d)
-  unfolding refusalAt refusal
-  score-small d =
-      small-or _ _ (small-or (firstOf (callTests s)) _ (small-first (callTests s) tt) (small-all (noteRefusal s) small-note (notesIn s)))
-      (small-first ((ltb (2 ^ 64 - 1) (d + scoreDraws s) ⇒ Draws) ∷ []) tt)
+-- ---- no refusal has a number above 22
+number-most : (r : Refusal) → numberOf r ≤ 22
+number-most Rate = omega arith
+number-most Frames = omega arith
+number-most Tempo = omega arith
+number-most StepsPerBeat = omega arith
+number-most Groove = omega arith
+number-most Knobs = omega arith
+number-most Words = omega arith
+number-most Kind = omega arith
+number-most Steps = omega arith
+number-most Size = omega arith
+number-most Lane = omega arith
+number-most Reach = omega arith
+number-most NoPitch = omega arith
+number-most Lengths = omega arith
+number-most NoteBuffer = omega arith
+number-most StringBuffer = omega arith
+number-most Draws = omega arith
 
 -- a number by tests is as small as each of its numbers
 cond-leb : (t : Bool) (x y m : ℕ) → leb (cond t x y) m ≡ cond t (leb x m) (leb y m)
@@ -87,11 +64,11 @@ cond-same : (t b : Bool) → cond t b b ≡ b
 cond-same true b = refl
 cond-same false b = refl
 
-text-most : (text : List ℕ) → textRefusal text ≤ 99
+text-most : (text : List ℕ) → textRefusal text ≤ 22
 unfolding textRefusal
-text-most text = leb-true (textRefusal text) 99 (simp (cond-leb, cond-same))
+text-most text = leb-true (textRefusal text) 22 (simp (cond-leb, cond-same))
 
-line-most : (n : ℕ) → n ≤ 99 → length (printedR n) ≤ 32808
+line-most : (n : ℕ) → n ≤ 22 → length (printedR n) ≤ 32808
 line-most n h = let l = refusal-length n (omega arith) in omega arith
 
 -- ---- an accepted call: n frames, and a draw that fits 64 bits
@@ -102,11 +79,10 @@ module _ (seed : ℕ) (s : Score) where
 
   note-length : (e : Decoded) (t : Taken) → length (taken seed s e t .frames) ≡ length (t .frames)
   unfolding taken
-  note-length = by-kind (λ e. (t : Taken) → length (taken seed s e t .frames) ≡ length (t .frames))
-      (λ m t.
+  note-length NoKind t = refl
+  note-length (Note m) t =
       let p = place s m in
-      mixed-by (skips s m) t _ (mixed-length (p .start) (framesIn (aloneOf s m (stateAfter seed (t .x)))) (s .seq .env) (p .len) (rateIn s) (p .gain) (t .frames)))
-      (λ e none t. ap (λ (u : Taken). length (u .frames)) (none .other t (takenNote seed s t)))
+      mixed-by (skips s m) t _ (mixed-length (p .start) (framesIn (aloneOf s m (stateAfter seed (t .x)))) (s .seq .env) (p .len) (rateIn s) (p .gain) (t .frames))
 
   taken-length : (d k : ℕ) → length (takenAfter seed s d k .frames) ≡ s .n
   unfolding takenAfter
@@ -125,20 +101,20 @@ module _ (seed : ℕ) (s : Score) where
 abbrev shownAfter : ℕ → ℕ → (ℕ → ℕ) → Result → List ℕ
 shownAfter d x state r = shownAt (state (newDraw r d x)) (newDraw r d x) r
 
-shown-most : (v : Verdict) (D d x : ℕ) (frames : List Float) (state : ℕ → ℕ) → Small v → (v ≡ Fine → x < 2 ^ 64) → length frames ≤ 2048
+shown-most : (v : Verdict) (D d x : ℕ) (frames : List Float) (state : ℕ → ℕ) → (v ≡ Fine → x < 2 ^ 64) → length frames ≤ 2048
     → length (shownAfter d x state (unless v (accepted D frames))) ≤ 32808
-shown-most Fine D d x frames state few f l = let k = listing-length (state x) x frames (f refl) l in omega arith
-shown-most (Refuse r) D d x frames state few f l = line-most (numberOf r) (few r refl)
+shown-most Fine D d x frames state f l = let k = listing-length (state x) x frames (f refl) l in omega arith
+shown-most (Refuse r) D d x frames state f l = line-most (numberOf r) (number-most r)
 
 played-most : (seq : Seq) (notes : List ℕ) (n seed draw : ℕ) → n ≤ 2048 → length (played seq notes n seed draw) ≤ 32808
 unfolding played tally tallied
 played-most seq notes n seed draw h =
     let s = callOf seq notes n in
     let frames = taken-length seed s draw (noteCount s) in
-    shown-most (refusalAt s draw) (scoreDraws s) draw _ _ (stateAfter seed) (score-small s draw) (draw-fits seed s draw) (omega arith)
+    shown-most (refusalAt s draw) (scoreDraws s) draw _ _ (stateAfter seed) (draw-fits seed s draw) (omega arith)
 
 -- ---- the listing of any text
-listed-most : (n : ℕ) (l : List ℕ) → n ≤ 99 → (n ≡ 0 → length l ≤ 32808) → length (unlessRefused n l) ≤ 32808
+listed-most : (n : ℕ) (l : List ℕ) → n ≤ 22 → (n ≡ 0 → length l ≤ 32808) → length (unlessRefused n l) ≤ 32808
 listed-most zero l h f = f refl
 listed-most (suc n) l h f = line-most (suc n) h
 
