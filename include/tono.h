@@ -118,6 +118,17 @@ static inline const char *tono_reason(int number)
  * calls it 128 KiB or more beyond its own needs. */
 int64_t tono_play(const uint8_t *score, size_t score_len, uint8_t *reply, size_t reply_len);
 
+/* The exponential of x, the same bits on every machine.
+ *
+ * A NaN gives a NaN. Above 709.782712893383 (40862e42fefa39e6), so at infinity too, the answer is
+ * infinity; below -745.133219101941 (c0874910d52d3050), so at minus infinity too, it is 0. In between
+ * it is finite: up to and at the upper cutoff, where it is 7fefffffffffdb2a, and down through the
+ * subnormals, which it gives as such. From about -744.787 down to the lower cutoff it is 0, though the
+ * exponential itself rounds to the smallest subnormal there.
+ *
+ * It is the exponential that the voices call, before that is narrowed to f32. */
+double tono_exp(double x);
+
 #ifdef __cplusplus
 }
 #endif
