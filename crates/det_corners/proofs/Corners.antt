@@ -11,12 +11,12 @@ use lib.IntN.{ℤ, pos, negsuc, negℤ, natAbs}
 use lib.Signed.{ltZ, leZ}
 use lib.Dec.{T, lit≤, lit<}
 use lib.Pow.{pow-pos}
-use lib.Ieee.{Float, nan, inf, fin, binary64, ofBits, lt, mul, add, sub, neg, div, isNan, toSigned, fits, round, size, units, odd}
+use lib.Ieee.{Float, nan, inf, fin, binary64, ofBits, lt, mul, add, sub, neg, div, isNan, toSigned, fits, round, size, units, odd, sum}
 use lib.Ieee.Fits.{sub-fits}
 use lib.Ieee.Scale.{finite}
 use Rattle.laws.proofs.If.{if-false}
 use Rattle.ieee.specs.Binary64.{_⊠_}
-use Rattle.ieee.specs.Numbers64.{d0, d2}
+use Rattle.ieee.specs.Numbers64.{d0, d1, d2}
 use Rattle.ieee.specs.Whole.{whole}
 use Rattle.ieee.specs.Narrow.{narrowOf}
 use Rattle.ieee.proofs.Rounding.{Cmp, cmp}
@@ -253,7 +253,20 @@ finite-below x n p = subst (λ (b : Bool). T (finite (cond b (inf false) (cond (
     go true q = tt
     go false q = at q (where-is (power x))
 
--- at a NaN and at the infinities
-pub specials : (exp64 nan ≡ nan) × (exp64 (inf false) ≡ inf false) × (exp64 (inf true) ≡ d0)
-unfolding exp64 expReduced expFrom expNear lessLn2 scaled ldexp2Of lt mul add sub neg div whole toSigned ofBits
-specials = (refl, refl, refl)
+-- at a NaN, at the infinities and at both zeros
+pub specials
+    : (exp64 nan ≡ nan)
+    × (exp64 (inf false) ≡ inf false)
+    × (exp64 (inf true) ≡ d0)
+    × (exp64 d0 ≡ d1)
+    × (exp64 (neg d0) ≡ d1)
+unfolding exp64 expReduced expFrom expNear lessLn2 scaled ldexp2Of lt mul add sub neg div whole toSigned ofBits round size units odd sum
+specials = (refl, refl, refl, refl, refl)
+
+-- at the next f64 above the upper cutoff, at the lower cutoff and at the next below it
+pub cutoffs
+    : (exp64 (ofBits binary64 0x4086_2e42_fefa_39e7) ≡ inf false)
+    × (exp64 EXP·MIN ≡ d0)
+    × (exp64 (ofBits binary64 0xc087_4910_d52d_3051) ≡ d0)
+unfolding exp64 expReduced expFrom expNear lessLn2 scaled ldexp2Of lt mul add sub neg div whole toSigned ofBits round size units odd sum
+cutoffs = (refl, refl, refl)

@@ -1,6 +1,6 @@
 -- The f32 wrappers that rest on the exponential give what det.rs's own arithmetic gives: no f32 answer moves by the library's k = -1023 and k = 1024.
 -- The hyperbolic tangent does not move at f64 either. Assumes nothing.
-use mathlib.Core.Path.{_≡_, refl, sym, ap, _∙_, subst}
+use mathlib.Core.Path.{_≡_, refl, sym, ap, _∙_, subst, fun-ext}
 use mathlib.Core.Logic.{_⊎_, inl, inr}
 use mathlib.Core.Bool.{Bool, true, false, cond, true≢false}
 use Prim.Native.Nat.{ℕ, zero, suc, _+_, _-_, _*_, _≤_, _<_}
@@ -99,3 +99,11 @@ tanh-same x = ap (λ (y : Float). cond (isNan x) nan y) (signed-same (magnitudeO
 
 pub tanhf-same : (x : Float) → tanhfOf x ≡ tanhfDetRs x
 tanhf-same x = ap narrowOf (tanh-same x)
+
+-- ---- whatever is computed from the three wrappers is what det.rs's own give. So is every frame: no voice calls another exponential.
+pub kept
+    : {A : Type 0} (F : (Float → Float) → (Float → Float → Float) → (Float → Float) → A) → F expfOf powffOf tanhfOf ≡ F expfDetRs powffDetRs tanhfDetRs
+kept F =
+    ap (λ (e : Float → Float). F e powffOf tanhfOf) (fun-ext expf-same)
+    ∙ ap (λ (p : Float → Float → Float). F expfDetRs p tanhfOf) (fun-ext (λ x. fun-ext (powff-same x)))
+    ∙ ap (F expfDetRs powffDetRs) (fun-ext tanhf-same)
