@@ -100,7 +100,7 @@ tanh-same x = ap (λ (y : Float). cond (isNan x) nan y) (signed-same (magnitudeO
 pub tanhf-same : (x : Float) → tanhfOf x ≡ tanhfDetRs x
 tanhf-same x = ap narrowOf (tanh-same x)
 
--- ---- whatever is computed from the three wrappers is what det.rs's own give. So is every frame: no voice calls another exponential.
+-- ---- whatever is computed from the three wrappers is what det.rs's own give
 pub kept
     : {A : Type 0} (F : (Float → Float) → (Float → Float → Float) → (Float → Float) → A) → F expfOf powffOf tanhfOf ≡ F expfDetRs powffDetRs tanhfDetRs
 kept F =
