@@ -1,4 +1,4 @@
-/* tono.h: plays a text score from C or C++.
+/* tono.h: plays a text score and computes exponentials, from C or C++.
  *
  * Link libtono.a, which `rt staticlib tono` writes to target/staticlib. It needs nothing but memcpy and
  * memset of the C library. x86-64 Linux. The header compiles as C99 and later, and as C++. */
@@ -117,6 +117,24 @@ static inline const char *tono_reason(int number)
  * It uses up to 96,824 bytes of stack, measured on every wave (compare/robust/stack.c). Give a thread that
  * calls it 128 KiB or more beyond its own needs. */
 int64_t tono_play(const uint8_t *score, size_t score_len, uint8_t *reply, size_t reply_len);
+
+/* The exponential of x, for every x. It is the kernel that the voices call, before that is narrowed to float.
+ *
+ *     x                                               tono_exp(x)
+ *     NaN                                             NaN
+ *     above 709.782712893383, and infinity            infinity
+ *     709.782712893383 (40862e42fefa39e6)             7fefffffffffdb2a, which is 1.7976931348604338e308
+ *     any number up to that                           finite
+ *     0 and -0                                        1
+ *     below about -708.396                            subnormal, and as such not flushed to 0
+ *     about -744.787 down to -745.133219101941        0, though the true value rounds to the smallest subnormal
+ *     below -745.133219101941 (c0874910d52d3050),
+ *     and minus infinity                              0
+ *
+ * The call keeps no state, allocates nothing, makes no system call and always returns. Threads may call it at
+ * the same time. Like tono_play it needs the floating-point mode that a program starts with: rounding to
+ * nearest, and subnormals kept. A host that sets FTZ or DAZ, or is linked with -ffast-math, loses them. */
+double tono_exp(double x);
 
 #ifdef __cplusplus
 }

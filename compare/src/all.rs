@@ -13,7 +13,7 @@ type Part = (&'static str, &'static str, fn(u64) -> Count);
 
 const PARTS: [Part; 8] = [
     ("float helpers", "Rust's operations", helpers::run),
-    ("kernels", "det.rs", |scale| {
+    ("kernels", "det.rs and the request's words", |scale| {
         kernels::run_all(kernels::COUNT.div_ceil(scale), scale)
     }),
     ("notes of each wave", "seq_note_signal", |scale| {

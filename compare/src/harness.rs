@@ -29,6 +29,7 @@ unsafe extern "C" {
     pub safe fn h_lnf(x: f32) -> f32;
     pub safe fn h_tanhf(x: f32) -> f32;
     pub safe fn h_powff(x: f32, y: f32) -> f32;
+    pub safe fn tono_exp(x: f64) -> f64;
 }
 
 mod raw {

@@ -1,7 +1,8 @@
 //! The replay files of crates/det_vectors: the kernels' borders and random arguments, with the
-//! answers of the original. A line is a name and the arguments' patterns; its answer is appended
+//! answers of the original, or of `exponential` for the f64 exponential and power. A line is a name and the arguments' patterns; its answer is appended
 //! in the second file.
 
+use crate::exponential;
 use crate::kernels::{decay, drive, frequency, phase, pitch};
 use crate::random::draw_at;
 use crate::vectors::Replay;
@@ -37,7 +38,7 @@ impl Replay {
     fn powers(&mut self, arguments: &[(f64, f64)]) {
         for (x, y) in arguments {
             let case = format!("powf {:016x} {:016x}", x.to_bits(), y.to_bits());
-            self.push(case, double(det::powf(*x, *y)));
+            self.push(case, double(exponential::powf(*x, *y)));
             let (x, y) = (*x as f32, *y as f32);
             let case = format!("powff {:08x} {:08x}", x.to_bits(), y.to_bits());
             self.push(case, single(det::powff(x, y)));
@@ -164,7 +165,7 @@ pub fn run() -> io::Result<()> {
     replay.narrow("sinf", &angles, det::sinf);
     replay.narrow("cosf", &angles, det::cosf);
     let exponents = arguments(exponents(), decay);
-    replay.wide("exp", &exponents, det::exp);
+    replay.wide("exp", &exponents, exponential::exp);
     replay.narrow("expf", &exponents, det::expf);
     let logarithms = arguments(logarithms(), frequency);
     replay.wide("ln", &logarithms, det::ln);

@@ -1,6 +1,8 @@
-//! The kernels against the original's det.rs.
+//! The kernels against the original's det.rs; the exponential and the power in f64 against `exponential`,
+//! which is det.rs but at two powers of two.
 
 use crate::engine::{compare, Cases, Count};
+use crate::exponential;
 use crate::harness::*;
 use crate::random::{draw_at, unit};
 use tono::det;
@@ -93,7 +95,7 @@ const KERNELS: [Kernel; 5] = [
     Kernel {
         name: "exp",
         musical: decay,
-        double: (h_exp, det::exp),
+        double: (h_exp, exponential::exp),
         single: (h_expf, det::expf),
     },
     Kernel {
@@ -136,7 +138,7 @@ fn compare_powers(count: u64) -> Count {
         "powf",
         &wide,
         |(x, y)| h_powf(x, y),
-        |(x, y)| det::powf(x, y),
+        |(x, y)| exponential::powf(x, y),
     ) + compare(
         "powff",
         &narrow,
@@ -145,10 +147,28 @@ fn compare_powers(count: u64) -> Count {
     )
 }
 
+/// The direct call of the exponential where it is its own, and around its cutoffs; and the wrapper there.
+fn compare_ends(count: u64) -> Count {
+    let case = |i| exponential::ends(i, draw_at(7, i));
+    let wide = Cases { count, case };
+    let narrow = Cases {
+        count,
+        case: |i| case(i) as f32,
+    };
+    compare("tono_exp ends", &wide, |x| tono_exp(x), exponential::exp)
+        + compare("expf ends", &narrow, |x| h_expf(x), det::expf)
+        + compare(
+            "exp ends, narrowed",
+            &wide,
+            |x| h_narrow(tono_exp(x)),
+            |x| det::exp(x) as f32,
+        )
+}
+
 /// Compares every kernel on `count` arguments.
 pub fn run(count: u64) -> Count {
     let one: Count = KERNELS.iter().map(|kernel| kernel.compare(count)).sum();
-    (one + compare_powers(count)).printed()
+    (one + compare_powers(count) + compare_ends(count)).printed()
 }
 
 /// One f32 pattern in `scale` through a wrapper.

@@ -10,6 +10,7 @@ mod borders;
 mod cases;
 mod dsp;
 mod engine;
+mod exponential;
 mod groove_cases;
 mod groove_vectors;
 mod growth;

@@ -54,12 +54,12 @@ d20 = ofBits binary64 0x4034_0000_0000_0000
 abbrev pub d0·25 : Float
 d0·25 = ofBits binary64 0x3fd0_0000_0000_0000
 
--- fn tanh, from the pair (x, sign) on
-unfoldable pub tanhSigned : Float → Float → Float
-tanhSigned x sign =
+-- fn tanh by an exponential, from the pair (x, sign) on
+unfoldable pub tanhSigned : (Float → Float) → Float → Float → Float
+tanhSigned exp x sign =
     cond (lt d20 x) sign
     (cond (lt x d0·25) (let e = expm1Small (d2 ⊠ x) in sign ⊠ (e ⧄ (e ⊞ d2)))
-    (sign ⊠ (d1 ⊟ d2 ⧄ (exp64 (d2 ⊠ x) ⊞ d1))))
+    (sign ⊠ (d1 ⊟ d2 ⧄ (exp (d2 ⊠ x) ⊞ d1))))
 
 -- the pair (x, sign)
 abbrev pub magnitudeOf : Float → Float
@@ -69,5 +69,8 @@ abbrev pub unitSign : Float → Float
 unitSign x = cond (lt x d0) (neg d1) d1
 
 -- fn tanh
+abbrev pub tanhBy : (Float → Float) → Float → Float
+tanhBy exp x = cond (isNan x) nan (tanhSigned exp (magnitudeOf x) (unitSign x))
+
 unfoldable pub tanh64 : Float → Float
-tanh64 x = cond (isNan x) nan (tanhSigned (magnitudeOf x) (unitSign x))
+tanh64 = tanhBy exp64

@@ -1,7 +1,7 @@
 // Powers of two and the exponential: e^x = 2^k · e^r with k the whole number nearest to x / ln 2.
 ghost use mathlib.Core.Path.{_≡_};
 ghost use lib.Dec.{T};
-ghost use Rattle.det.specs.Exp.{ldexp2Of, expFrom, expReduced, exp64};
+ghost use Rattle.det.specs.Exp.{ldexp2Of, scaled, expFrom, expReduced, exp64};
 ghost use Rattle.det.specs.Rounded.{noFraction};
 use crate::rounded::rounded_to_i64;
 use crate::special::infinity;
@@ -27,21 +27,31 @@ const EXP_MAX: f64 = 7.09782712893383e+02; // 40862e42fefa39e6
 
 const EXP_MIN: f64 = -7.45133219101941e+02; // c0874910d52d3050
 
-// 2^k by its bit pattern: an infinity for k > 1023, 0 for k < -1074. At k = -1023 the pattern is
-// that of 0 too.
+// 2^k by its bit pattern: an infinity for k > 1023, 0 for k < -1074. det.rs makes the pattern of 0 at
+// k = -1023; here it is the subnormal's.
 fn ldexp2(k: i64) -> f64
     ensures { λ r. ⌜ r ≡ ldexp2Of k ⌝ }
 {
     if k > 1023 {
         return infinity();
     }
-    if k < -1023 {
+    if k < -1022 {
         if k < -1074 {
             return 0.0;
         }
         return f64::from_bits(1u64 << ((k + 1074) as u64));
     }
     f64::from_bits(((k + 1023) as u64) << 52)
+}
+
+// y · 2^k. 2^1024 is no f64, so that k = 1024 goes by 2^1023 and then by 2.
+fn scaled(y: f64, k: i64) -> f64
+    ensures { λ r. ⌜ r ≡ scaled y k ⌝ }
+{
+    if k >= 1024 {
+        return y * ldexp2(k - 1) * 2.0;
+    }
+    y * ldexp2(k)
 }
 
 // exp(x) = 2^k · exp(r), with exp(r) = 1 − (r·c/(c − 2) − r) and c = r − r²·P(r²).
@@ -53,7 +63,7 @@ fn exp_from(x: f64, k: f64) -> f64
     let t = r * r;
     let c = r - t * (P1 + t * (P2 + t * (P3 + t * (P4 + t * P5))));
     let y = 1.0 - ((r * c) / (c - 2.0) - r);
-    y * ldexp2(rounded_to_i64(k))
+    scaled(y, rounded_to_i64(k))
 }
 
 // k is x / ln 2, rounded: above zero, below it, and where `near_f64` gives nothing.

@@ -1,5 +1,6 @@
 // The hyperbolic tangent, by a series near zero and by exp elsewhere.
 ghost use mathlib.Core.Path.{_≡_};
+ghost use Rattle.det.specs.Exp.{exp64};
 ghost use Rattle.det.specs.Tanh.{expm1Small, tanhSigned, magnitudeOf, unitSign, tanh64};
 use crate::exponential::exp;
 use crate::special::not_a_number;
@@ -43,7 +44,7 @@ fn expm1_small(x: f64) -> f64
 
 // sign · tanh(x) for an x that is not negative.
 fn tanh_signed(x: f64, sign: f64) -> f64
-    ensures { λ r. ⌜ r ≡ tanhSigned x sign ⌝ }
+    ensures { λ r. ⌜ r ≡ tanhSigned exp64 x sign ⌝ }
 {
     if x > 20.0 {
         return sign;

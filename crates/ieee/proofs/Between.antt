@@ -121,7 +121,7 @@ module _ {x : Float} {s : Bool} {k : ℕ} (n : Near x s k) where
       (exactly-value s k 0) near-value
 
 -- ---- as an integer
-signed-value : (h : ℕ) (x : Float) (s : Bool) (k : ℕ) → k < 2 ^ h → HasValue x s k 1 → toSigned h x ≡ cond s (negℤ (pos k)) (pos k)
+pub signed-value : (h : ℕ) (x : Float) (s : Bool) (k : ℕ) → k < 2 ^ h → HasValue x s k 1 → toSigned h x ≡ cond s (negℤ (pos k)) (pos k)
 unfolding toSigned
 signed-value h (fin t m e) s k l v =
     (λ i. cond (v .0 i) (negℤ (pos (min (quotient i) (2 ^ h)))) (pos (min (quotient i) (2 ^ h - 1))))

@@ -15,5 +15,7 @@ pub mod Range
 pub mod Size
 pub mod Quotients
 pub mod Between
+pub mod Bounded
+pub mod NarrowEnds
 pub mod Integral
 pub mod Unique

@@ -134,7 +134,7 @@ scaled-ltb : (a b c a′ b′ c′ : ℕ) → 0 < c → 0 < c′ → a * c′ �
 scaled-ltb a b c a′ b′ c′ C C′ p q h =
     lt→ltb a′ b′ (lt-of-mul-lt-mul-right c (subst (λ (x : ℕ). x < b′ * c) p (subst (λ (x : ℕ). a * c′ < x) q (mul-lt-mul-of-pos-right (ltb→lt a b h) C′))))
 
-sub-mul : (a b c : ℕ) → (a - b) * c ≡ a * c - b * c
+pub sub-mul : (a b c : ℕ) → (a - b) * c ≡ a * c - b * c
 sub-mul a b c = mul-comm (a - b) c ∙ mul-sub c a b ∙ (λ i. mul-comm c a i - mul-comm c b i)
 
 less-same : (a b c a′ b′ c′ : ℕ) → a * c′ ≡ a′ * c → b * c′ ≡ b′ * c → (a - b) * c′ ≡ (a′ - b′) * c

@@ -1,4 +1,6 @@
-// The C call: what a rig's host links.
+// The C calls: what a rig's host links.
+mod exponential; // exponential.rt: tono_exp
+
 ghost use Rattle.tono.specs.Answered.{Answered};
 use text::Reply;
 

@@ -21,8 +21,8 @@ use Rattle.det.proofs.exponential.ldexp2.Tie as tie
 abbrev read : ℤ → ℤ
 read k = toZ w64 (ofZ w64 k)
 
--- where a subnormal is made, and where a normal value or 0 is
-low : (c : tie.Else3) → Lifted (read (c .before .before .before .args .k)) 1074 51
+-- where a subnormal is made, and where a normal value is
+low : (c : tie.Else3) → Lifted (read (c .before .before .before .args .k)) 1074 52
 low c = subnormal (read (c .before .before .before .args .k)) (c .before .if2 .taken) (c .if3 .left)
 
 abbrev place : tie.Else3 → ℕ
