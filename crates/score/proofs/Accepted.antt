@@ -5,7 +5,8 @@ use mathlib.Core.Bool.{true}
 use native.Mathlib.Omega.{arith}
 use borrow.Author.Tests.{ltb-false, eqb-true, not-false}
 use lib.ListN.{length}
-use Rattle.ieee.specs.Numbers.{c0, c1}
+use Rattle.ieee.specs.Numbers.{c0, c1, c1000}
+use Rattle.ieee.specs.Order.{withinOf}
 use Rattle.laws.proofs.Listed.{from-map}
 use Rattle.dsl.specs.Domain.{Rate, Frames, numeric}
 use Rattle.dsl.specs.Sized.{sizedOf, allSized, pitchSized}
@@ -17,14 +18,13 @@ use Rattle.dsl.specs.declared.note.Decoded.the-variants.{Note}
 use Rattle.dsl.proofs.Magnitude.{sized-numeric}
 use Rattle.dsl.proofs.Reach.{reaches-less}
 use Rattle.dsl.proofs.Cases.{NoNote}
-use Rattle.groove.specs.Number.{c1000}
 use Rattle.groove.proofs.Room.{sounded-le, length-least}
 use Rattle.outcome.specs.First.{firstOf}
 use Rattle.outcome.specs.declared.answer.Verdict.the-variants.{Fine, Refuse}
 use Rattle.outcome.specs.declared.answer.Refusal.the-variants.{Kind}
 use Rattle.outcome.proofs.First.{none-holds, or-fine, inside-least, inside-most, each-fine}
 use Rattle.score.specs.Score.{Score, rateIn, noteIn, noteCount, placeOf, place}
-use Rattle.score.specs.Refusals.{withinOf, callTests, noteTests, noteRefusal, refusal, Clean}
+use Rattle.score.specs.Refusals.{callTests, noteTests, noteRefusal, refusal, Clean}
 
 -- ---- a note
 -- a note of a score that is not refused

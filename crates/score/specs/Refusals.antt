@@ -5,15 +5,14 @@ use mathlib.Core.List.{List, [], _∷_, _++_, map}
 use mathlib.Core.Bool.{Bool, false, cond, not}
 use lib.ListN.{length}
 use lib.Dec.{ltb, eqb}
-use lib.Ieee.{Float, le}
-use Rattle.ieee.specs.Numbers.{c0, c1}
+use Rattle.ieee.specs.Numbers.{c0, c1, c1000}
+use Rattle.ieee.specs.Order.{withinOf}
 use Rattle.dsl.specs.Sized.{sizedOf, allSized, pitchSized}
 use Rattle.dsl.specs.Knobs.{knobList, envList}
 use Rattle.dsl.specs.Note.{ofNote}
 use Rattle.dsl.specs.Pitch.{passes}
 use Rattle.dsl.specs.declared.note.SeqNote.{SeqNote}
 use Rattle.dsl.specs.declared.note.Decoded.{Decoded}
-use Rattle.groove.specs.Number.{c1000}
 use Rattle.outcome.specs.First.{Test, _⇒_, firstOf, orElse, firstRefusal, outside}
 use Rattle.outcome.specs.Domain.{domainTests}
 use Rattle.outcome.specs.declared.answer.Refusal.the-variants.{Tempo, StepsPerBeat, Groove, Knobs, NoteBuffer, StringBuffer, Words, Lane, Kind, Steps, Size, Reach, Draws}
@@ -22,10 +21,6 @@ use Rattle.outcome.specs.declared.answer.Verdict.the-variants.{Fine, Refuse}
 use Rattle.score.specs.Score.{Score, noteIn, noteCount, notesIn, place, scoreDraws}
 use Rattle.score.specs.declared.seq.Seq.{Seq}
 use Rattle.score.specs.declared.seq.Timing.{Timing}
-
--- from low to high; a NaN is not
-unfoldable pub withinOf : Float → Float → Float → Bool
-withinOf x low high = cond (le low x) (le x high) false
 
 -- "1 rate; 2 n; 3 tempo; 4 steps per beat; 5 swing or humanize: outside the domain"
 abbrev pub numberTests : Timing → ℕ → List Test
