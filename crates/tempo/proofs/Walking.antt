@@ -29,6 +29,12 @@ count-is m k h = sym (length-take (m .count) (m .points) ∙ least (m .count) (l
     least : (c l : ℕ) → l ≡ 64 → c ≤ 64 → min c l ≡ c
     least c l e h = omega arith
 
+pub some-points : (m : TempoMap) → length (m .points) ≡ 64 → 0 < m .count → 0 < length (points m)
+some-points m k h = rw (length-take (m .count) (m .points)) (least (m .count) (length (m .points)) k h)
+  where
+    least : (c l : ℕ) → l ≡ 64 → 0 < c → 0 < min c l
+    least c l e h = omega arith
+
 module _ (m : TempoMap) (i : ℕ) (lt : i < length (points m)) where
   within : i < m .count
   within = under (length (points m)) (m .count) (length (m .points)) (length-take (m .count) (m .points)) lt
@@ -36,9 +42,12 @@ module _ (m : TempoMap) (i : ℕ) (lt : i < length (points m)) where
       under : (n c l : ℕ) → n ≡ min c l → i < n → i < c
       under n c l e h = omega arith
 
+  pub taken : (d : TempoPoint) → getD (points m) i d ≡ getD (m .points) i d
+  taken d = getD-take (m .count) (m .points) i d within
+
   -- from place i on
   pub ahead-of : (d : TempoPoint) → drop i (points m) ≡ getD (m .points) i d ∷ drop (suc i) (points m)
-  ahead-of d = drop-cons (points m) i d lt ∙ ap (λ (p : TempoPoint). p ∷ drop (suc i) (points m)) (getD-take (m .count) (m .points) i d within)
+  ahead-of d = drop-cons (points m) i d lt ∙ ap (λ (p : TempoPoint). p ∷ drop (suc i) (points m)) (taken d)
 
 pub past-all : (m : TempoMap) (i : ℕ) → length (points m) ≤ i → drop i (points m) ≡ []
 past-all m i h = drop-of-length-le (points m) h
