@@ -2,8 +2,9 @@
 use Prim.Native.Nat.{ℕ, suc}
 use mathlib.Core.List.{List, [], _∷_}
 use mathlib.Core.Bool.{cond}
-use lib.ListN.{take, drop}
-use lib.Ieee.{Float, le, lt}
+use lib.ListN.{take, drop, replicate}
+use lib.IntN.{pos}
+use lib.Ieee.{Float, binary32, ofBits, le, lt}
 use Rattle.ieee.specs.Numbers64.{d0, d1, d60}
 use Rattle.ieee.specs.Binary64.{_⊞_, _⊟_, _⊠_, _⧄_}
 use Rattle.ieee.specs.Order.{maxOf}
@@ -15,6 +16,10 @@ use Rattle.tempo.specs.declared.walk.Walk.{Walk}
 -- the points that are looked at: the first `count` places
 abbrev pub points : TempoMap → List TempoPoint
 points m = take (m .count) (m .points)
+
+-- a map of no points
+abbrev pub noMap : TempoMap
+noMap = record { points = replicate 64 (record { at = record { num = pos 0; den = 1 }; bpm = ofBits binary32 0x42f00000 }); count = 0 }
 
 -- "Degenerate tempos floor at 1 BPM": the tempo as f64, at least 1
 abbrev pub floored : Float → Float

@@ -2,7 +2,7 @@
 ghost use mathlib.Core.Path.{_≡_};
 ghost use Prim.Native.Nat.{_≤_};
 ghost use lib.ListN.{length};
-ghost use Rattle.tempo.specs.Map.{points};
+ghost use Rattle.tempo.specs.Map.{points, noMap};
 use beat::Beat;
 
 // From `at` until the next point, the tempo is `bpm` beats per minute.
@@ -18,8 +18,9 @@ pub struct TempoMap {
 }
 
 impl TempoMap {
+    // The places are not looked at.
     pub fn none() -> TempoMap
-        ensures { λ r. ⌜ r .count ≡ 0 ⌝ }
+        ensures { λ r. ⌜ r ≡ noMap ⌝ }
     {
         let at = Beat { num: 0, den: 1 };
         TempoMap {
