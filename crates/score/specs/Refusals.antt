@@ -35,11 +35,10 @@ numberTests t n =
     domainTests (t .rate) n
     ++ (not (withinOf (t .tempo) c1 c1000) ⇒ Tempo)
     ∷ (outside (t .«steps_per_beat») 1 64 ⇒ StepsPerBeat)
-    ∷ (not (inDomain (t .«tempo_map»)) ⇒ TempoPoints)
-    ∷ (not (inOrder (t .«tempo_map»)) ⇒ TempoOrder)
-    ∷ (not (withinOf (t .swing) c0 c1) ⇒ Groove)
+    ∷ (mapTests (t .«tempo_map»)
+    ++ (not (withinOf (t .swing) c0 c1) ⇒ Groove)
     ∷ (not (withinOf (t .humanize) c0 c1) ⇒ Groove)
-    ∷ []
+    ∷ [])
 
 -- "6 a knob of any of the four sets, whether the wave uses it or not, the duty or an envelope number isn't sized"
 abbrev pub voiceTests : Seq → List Test

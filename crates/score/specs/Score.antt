@@ -81,7 +81,7 @@ mappedPlace t n m =
 
 -- Where a note stands among n frames: "with no points .. the straight tempo plays". Nothing else looks at the timing.
 unfoldable pub placeOf : Timing → ℕ → SeqNote → Place
-placeOf t n m = cond (eqb (t .«tempo_map» .count) 0) (straightPlace t n m) (mappedPlace t n m)
+placeOf t n m = cond (eqb (length (points (t .«tempo_map»))) 0) (straightPlace t n m) (mappedPlace t n m)
 
 module _ (s : Score) (m : SeqNote) where
   abbrev pub place : Place
