@@ -12,6 +12,7 @@ use Rattle.text_lines.specs.declared.Numbers.{Numbers}
 use Rattle.text_voice_line.specs.declared.Sound.{Sound}
 use Rattle.text_read.specs.declared.text.TextScore.{TextScore}
 use Rattle.text_read.specs.declared.text.Parsed.{Parsed}
+use Rattle.tempo.specs.Map.{noMap}
 use Rattle.text_read.specs.declared.text.Parsed.the-variants.{Score, Broken}
 
 -- What a text score says: a score call's numbers, voice and note words, the length n of its output, and the seed and the draw that open its session.
@@ -25,7 +26,7 @@ pub record Text : Type 0 where
 abbrev pub seqOf : Numbers → Adsr → Sound → Seq
 seqOf a env v =
     record {
-      timing = record { rate = a .rate; tempo = a .tempo; «steps_per_beat» = a .«steps_per_beat»; swing = a .swing; humanize = a .humanize };
+      timing = record { rate = a .rate; tempo = a .tempo; «steps_per_beat» = a .«steps_per_beat»; «tempo_map» = noMap; swing = a .swing; humanize = a .humanize };
       voice = v .voice;
       duty = v .duty;
       env = env;

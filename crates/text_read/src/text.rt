@@ -4,6 +4,7 @@ use crate::notes::Count;
 use crate::notes::notes;
 use score::Seq;
 use score::Timing;
+use tempo::TempoMap;
 use text_lines::LineE;
 use text_lines::LineG;
 use text_lines::LineS;
@@ -54,6 +55,7 @@ pub fn read_score(text: &[u8], words: &mut [u32]) -> Parsed
         rate: numbers.rate,
         tempo: numbers.tempo,
         steps_per_beat: numbers.steps_per_beat,
+        tempo_map: TempoMap::none(),
         swing: numbers.swing,
         humanize: numbers.humanize,
     };
