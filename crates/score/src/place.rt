@@ -54,7 +54,7 @@ fn mapped_place(timing: Timing, n: usize, note: SeqNote) -> Place
     requires { ⌜ 0 < length (points (timing .«tempo_map»)) ⌝ }
     ensures { λ r. ⌜ r ≡ mappedPlace timing n note ⌝ }
 {
-    let groove = groove::groove_note_mapped(
+    let mapped = groove::groove_note_mapped(
         note,
         timing.swing,
         timing.humanize,
@@ -62,12 +62,12 @@ fn mapped_place(timing: Timing, n: usize, note: SeqNote) -> Place
         timing.steps_per_beat,
         timing.rate,
     );
-    let len = groove::mapped_len(groove.start, groove.end, n);
+    let len = groove::mapped_len(mapped.start, mapped.end, n);
     Place {
-        start: groove.start,
+        start: mapped.start,
         len,
-        sounded: groove::sounded_frames(n, groove.start, len),
-        gain: groove.gain,
+        sounded: groove::sounded_frames(n, mapped.start, len),
+        gain: mapped.gain,
     }
 }
 

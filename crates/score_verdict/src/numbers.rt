@@ -26,13 +26,25 @@ pub(crate) fn numbers_verdict(timing: Timing, n: usize) -> Verdict
     ensures { λ r. ⌜ r ≡ firstAfter Fine (numberTests timing n) ⌝ }
 {
     let found = outcome::domain_verdict(timing.rate, n);
-    let found = or_else(found, !float::within_f32(timing.tempo, 1.0, 1000.0), Refusal::Tempo);
+    let found = or_else(
+        found,
+        !float::within_f32(timing.tempo, 1.0, 1000.0),
+        Refusal::Tempo,
+    );
     let found = or_else(
         found,
         outside(timing.steps_per_beat, 1, 64),
         Refusal::StepsPerBeat,
     );
     let found = map_verdict(found, timing.tempo_map);
-    let found = or_else(found, !float::within_f32(timing.swing, 0.0, 1.0), Refusal::Groove);
-    or_else(found, !float::within_f32(timing.humanize, 0.0, 1.0), Refusal::Groove)
+    let found = or_else(
+        found,
+        !float::within_f32(timing.swing, 0.0, 1.0),
+        Refusal::Groove,
+    );
+    or_else(
+        found,
+        !float::within_f32(timing.humanize, 0.0, 1.0),
+        Refusal::Groove,
+    )
 }

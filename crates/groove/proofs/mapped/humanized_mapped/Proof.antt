@@ -37,8 +37,7 @@ returns : tie.Need-returns
 unfolding humanDelay64 humanGain
 returns c =
     let taken = c .before .before .before .before .before .if1 .taken in
-    let draws = c .before .before .before .before .humanize-draws .ensures in
-    (
+    let draws = c .before .before .before .before .humanize-draws .ensures in (
       if-true _ taken (rw (c .before .f32-to-f64-with-nan3 .ensures, c .before .before .f32-to-f64-with-nan2 .ensures, c .before .before .before .f32-to-f64-with-nan .ensures, draws)),
       if-true _ taken (rw (c .human-gain .ensures, draws)),
     )
