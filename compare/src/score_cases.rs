@@ -34,6 +34,7 @@ fn usual() -> Score {
         rate: 8000,
         tempo: 1000.0,
         steps_per_beat: 64,
+        points: Vec::new(),
         swing: 0.5,
         humanize: 0.25,
         wave: 0,
