@@ -70,8 +70,8 @@ pub fn ritardando(num: i64, den: u32, from: f32, to: f32) -> Vec<u32> {
     words_of(&points)
 }
 
-/// The same under a map: points at 7/3 of a beat each, from 132 down to 66, of which the frames reach the
-/// first fourteen.
+/// The same under a map from 132 beats a minute down, with a point at each 7/3 of a beat, of which twenty
+/// lie within the frames. Step 28 stands on a point, and the last note is cut.
 pub fn long_mapped(wave: u32) -> Score {
     Score {
         points: ritardando(7, 3, 132.0, 66.0),
@@ -81,17 +81,20 @@ pub fn long_mapped(wave: u32) -> Score {
             curve(28, 3, 100, 0.7),
             note(100, 4, 1500.0, 1.0),
             note(139, 0, 300.0, 1.0),
+            note(175, 8, 300.0, 1.0),
         ]
         .concat(),
         ..long(wave)
     }
 }
 
-/// As long as the domain goes, at the most beats: a beat is 480 frames or more, and the points go to
-/// beat 34,653 in thirds of beats.
+/// As long as the domain goes, with the most beats: a beat is 480 frames at first, and the last point
+/// stands at beat 34,671. Notes on points, across one, past the last, and past the frames.
 pub fn longest_mapped() -> Score {
     let [_, straight] = longest();
-    let steps = [0, 17_000, 17_051, 34_001, 34_651, 34_652, 34_653, 34_700];
+    let steps = [
+        0, 16_510, 17_051, 33_020, 34_120, 34_671, 34_700, 34_777, 34_800,
+    ];
     let words = steps.map(|step| note(step, 1 + step % 7, 0.0, 1.0));
     Score {
         rate: 8000,

@@ -3,7 +3,7 @@
 use crate::grid::Grid;
 use crate::random::Source;
 use crate::score::Score;
-use crate::score_random::steps;
+use crate::score_random::{steps, LONG};
 use crate::tempo_points::{points_of, words_of, Point};
 
 const MOST_BEATS: i64 = 1_000_000_000;
@@ -27,7 +27,13 @@ impl Score {
             1 | 2 => 64,
             _ => 1 + s.below(64) as usize,
         };
-        let points = map(count, within, score.steps_per_beat, s);
+        // in half of them notes can pass the last point
+        let beats = Beats {
+            within: within >> s.pick(&[0, 0, 1, 2]),
+            steps_per_beat: score.steps_per_beat,
+            kinds: s.pick(&[8, 7]),
+        };
+        let points = beats.map(count, s);
         score.points = words_of(&points);
         let on = on_steps(&points, score.steps_per_beat);
         let grid = Grid::of(&score.call());
@@ -40,6 +46,9 @@ impl Score {
                 0 => score.spoil_points(s),
                 _ => score.spoil(s),
             }
+        }
+        if s.below(LONG) == 0 {
+            score.out = 16_777_217;
         }
         score
     }
@@ -83,64 +92,67 @@ impl Score {
     }
 }
 
-/// Points from beat 0 on, at rising beats; as many as asked for, but where too many fall together.
-fn map(count: usize, within: u64, steps_per_beat: u32, s: &mut Source) -> Vec<Point> {
-    if count == 0 {
-        return Vec::new();
-    }
-    let mut beats = Vec::new();
-    for _ in 0..count + count / 4 {
-        let beat = match beats.last() {
-            Some(&last) if s.below(8) == 0 => just_after(last),
-            _ => beat(within, steps_per_beat, s),
-        };
-        beats.push(beat);
-    }
-    beats.sort_by(|&a, &b| cross(a, b).cmp(&cross(b, a)));
-    beats.dedup_by(|a, b| cross(*a, *b) == cross(*b, *a));
-    while beats.len() > count - 1 {
-        beats.remove(s.below(beats.len() as u64) as usize);
-    }
-    let den = s.pick(&[1, 1, 4, 1000, u32::MAX]);
-    beats.insert(0, (0, den));
-    let tempi = tempi(beats.len(), s);
-    let points = beats.into_iter().zip(tempi);
-    points
-        .map(|((num, den), bpm)| Point { num, den, bpm })
-        .collect()
-}
-
 type Fraction = (i64, u32);
 
 fn cross(a: Fraction, b: Fraction) -> i128 {
     a.0 as i128 * b.1 as i128
 }
 
-/// After 0: mostly on a step or between steps that sound, otherwise as far as the domain goes, or as
-/// near to 0.
-fn beat(within: u64, steps_per_beat: u32, s: &mut Source) -> Fraction {
-    let any = 1 + s.below(u32::MAX as u64) as u32;
-    let far = 1 + s.below(MOST_BEATS as u64);
-    let (num, den) = match s.below(8) {
-        0..=2 => {
-            let times = s.pick(&[1, 1, 2, 3, 1000]);
-            (
-                times * (1 + s.below(within + 2)),
-                times as u32 * steps_per_beat,
-            )
+/// What beats a map has: mostly among so many steps. Of the eight kinds of beats the last are far out.
+struct Beats {
+    within: u64,
+    steps_per_beat: u32,
+    kinds: u64,
+}
+
+impl Beats {
+    /// Points from beat 0 on, at rising beats; as many as asked for, but where too many fall together.
+    fn map(&self, count: usize, s: &mut Source) -> Vec<Point> {
+        if count == 0 {
+            return Vec::new();
         }
-        3..=5 => {
-            let den = s.pick(&[1, 2, 3, 5, 7, 24, 480, 44100, any, any]);
-            let most = (within as u128 + 1) * den as u128 / steps_per_beat as u128;
-            (1 + s.below(most as u64 + 1), den)
+        let mut beats = Vec::new();
+        for _ in 0..count + count / 2 {
+            let beat = match beats.last() {
+                Some(&last) if s.below(8) == 0 => just_after(last),
+                _ => self.beat(s),
+            };
+            beats.push(beat);
         }
-        6 => (
-            s.pick(&[1_000_000_000, 999_999_999, far]),
-            s.pick(&[1, 2, 7, 1000, any]),
-        ),
-        _ => (1 + s.below(3), s.pick(&[u32::MAX, u32::MAX - 1, any])),
-    };
-    (num.min(MOST_BEATS as u64) as i64, den)
+        beats.sort_by(|&a, &b| cross(a, b).cmp(&cross(b, a)));
+        beats.dedup_by(|a, b| cross(*a, *b) == cross(*b, *a));
+        while beats.len() > count - 1 {
+            beats.remove(s.below(beats.len() as u64) as usize);
+        }
+        beats.insert(0, (0, s.pick(&[1, 1, 4, 1000, u32::MAX])));
+        let tempi = tempi(beats.len(), s);
+        let points = beats.into_iter().zip(tempi);
+        let points = points.map(|((num, den), bpm)| Point { num, den, bpm });
+        points.collect()
+    }
+
+    /// After 0: on a step, between steps, as near to 0 as the domain goes, or as far.
+    fn beat(&self, s: &mut Source) -> Fraction {
+        let any = 1 + s.below(u32::MAX as u64) as u32;
+        let far = 1 + s.below(MOST_BEATS as u64);
+        let (num, den) = match s.below(self.kinds) {
+            0..=2 => {
+                let (step, times) = (1 + s.below(self.within + 2), s.pick(&[1, 1, 2, 3, 1000]));
+                (times * step, times as u32 * self.steps_per_beat)
+            }
+            3..=5 => {
+                let den = s.pick(&[3, 5, 7, 24, 480, 44_100, any, any]);
+                let most = (self.within + 1) * den as u64 / self.steps_per_beat as u64;
+                (1 + s.below(most + 1), den)
+            }
+            6 => (1 + s.below(3), s.pick(&[u32::MAX, u32::MAX - 1, any])),
+            _ => (
+                s.pick(&[1_000_000_000, 999_999_999, far]),
+                s.pick(&[1, 2, 7, 1000, any]),
+            ),
+        };
+        (num.min(MOST_BEATS as u64) as i64, den)
+    }
 }
 
 /// The least fraction above this one that is its neighbour among those of the largest denominators

@@ -9,7 +9,7 @@ use crate::waves::WAVES;
 /// The next number above 1.
 const ABOVE_1: f32 = 1.0 + f32::EPSILON;
 /// One score in so many has an output past the limit of the frames: 64 MiB, which take time to check.
-const LONG: u64 = 20_000;
+pub const LONG: u64 = 20_000;
 
 impl Score {
     /// A score of the domain, but that a curve may reach past its lane, and then up to three faults.
