@@ -25,6 +25,7 @@ mod libm;
 mod long_scores;
 mod mapped_bench;
 mod mapped_calls;
+mod mapped_cases;
 mod mapped_kinds;
 mod mapped_random;
 mod note_calls;

@@ -157,7 +157,7 @@ impl Beats {
 
 /// The least fraction above this one that is its neighbour among those of the largest denominators
 /// that 31 passes: as f64 the two are often one.
-fn just_after((num, den): Fraction) -> Fraction {
+pub fn just_after((num, den): Fraction) -> Fraction {
     let g = gcd(num, den as i64);
     let (a, b) = (num / g, den as i64 / g);
     // c × b − a × d = 1, with d below b
