@@ -1,7 +1,7 @@
 -- Sizes, quotients and products of signed numbers fit 64 bits. Assumes nothing.
 use Prim.Native.Nat.{ℕ, zero, suc, _*_, _/_, _≤_, _<_}
-use mathlib.Core.Path.{_≡_, refl, sym, ap, _∙_, subst}
-use mathlib.Core.Bool.{Bool, true, false}
+use mathlib.Core.Path.{_≡_, ap}
+use mathlib.Core.Bool.{true, false}
 use native.Mathlib.Omega.{arith}
 use native.Mathlib.Nat.{div-le-self, zero-add, mul-le-mul}
 use borrow.Author.Tests.{leb-false}
@@ -32,7 +32,9 @@ minus (pos n) e = absurd (omega (arith, leb-false 0 n e))
 minus (negsuc n) e = ap pos (zero-add (suc n))
 
 -- the machine's 0 - z
-pub minus-back : (z : ℤ) → SFits w64 z → natAbs z ≤ 1000000000 → leZ (pos 0) z ≡ false → (SFits w64 (pos 0 -ℤ toZ w64 (ofZ w64 z))) × (toZ w64 (ofZ w64 (pos 0 -ℤ toZ w64 (ofZ w64 z))) ≡ pos (natAbs z))
+pub minus-back :
+    (z : ℤ) → SFits w64 z → natAbs z ≤ 1000000000 → leZ (pos 0) z ≡ false →
+    (SFits w64 (pos 0 -ℤ toZ w64 (ofZ w64 z))) × (toZ w64 (ofZ w64 (pos 0 -ℤ toZ w64 (ofZ w64 z))) ≡ pos (natAbs z))
 minus-back z s h e =
     let f : SFits w64 (pos (natAbs z)) = record { sfits = omega arith } in
     (rw (toZ-ofZ s, minus z e) f, rw (toZ-ofZ s, minus z e) (toZ-ofZ f))
@@ -41,7 +43,8 @@ minus-back z s h e =
 product-fits : (z : ℤ) (d : ℕ) → natAbs z ≤ 1000000000 → d < 4294967296 → SFits w64 (z *ℤ pos d)
 product-fits (pos n) d h k = let g : d ≤ 4294967296 = omega arith in record { sfits = let m : n * d ≤ 1000000000 * 4294967296 = mul-le-mul h g in omega arith }
 product-fits (negsuc n) d h k =
-    let g : d ≤ 4294967296 = omega arith in record { sfits = let m : suc n * d ≤ 1000000000 * 4294967296 = mul-le-mul h g in omega (arith, mag-neg (suc n * d)) }
+    let g : d ≤ 4294967296 = omega arith in
+    record { sfits = let m : suc n * d ≤ 1000000000 * 4294967296 = mul-le-mul h g in omega (arith, mag-neg (suc n * d)) }
 
 module _ (z : ℤ) (d : ℕ) (s : SFits w64 z) (h : natAbs z ≤ 1000000000) (k : d < 4294967296) where
   -- the machine's product is the product

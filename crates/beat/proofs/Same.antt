@@ -35,7 +35,9 @@ clash : true ≡ false → ⊥
 clash e = let z : _≡_ {A = ℕ} 0 1 = cc in omega arith
 
 -- one fraction in two terms, of one sign
-same-terms : (p q : ℤ) (b d : ℕ) → natAbs p ≤ 1000000000 → natAbs q ≤ 1000000000 → b < 4294967296 → d < 4294967296 → 0 < b → 0 < d → p *ℤ pos d ≡ q *ℤ pos b → ofInt binary64 p ⧄ f64 b ≡ ofInt binary64 q ⧄ f64 d
+same-terms :
+    (p q : ℤ) (b d : ℕ) → natAbs p ≤ 1000000000 → natAbs q ≤ 1000000000 → b < 4294967296 → d < 4294967296 → 0 < b → 0 < d →
+    p *ℤ pos d ≡ q *ℤ pos b → ofInt binary64 p ⧄ f64 b ≡ ofInt binary64 q ⧄ f64 d
 unfolding ofInt
 same-terms (pos m) (pos n) b d hp hq hb hd B D e = same-quotient false m b n d (omega arith) (omega arith) (omega arith) (omega arith) B D (ap natAbs e)
 same-terms (pos m) (negsuc n) b d hp hq hb hd B D e = absurd (clash (ap nonNeg e ∙ below-0 (suc n * b) (mul-pos (omega arith) B)))

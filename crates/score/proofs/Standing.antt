@@ -1,15 +1,13 @@
 -- Where a note stands, at the straight tempo and under a tempo map. Use in place of the text of `placeOf`. Assumes nothing.
 use Prim.Native.Nat.{ℕ, _≤_, max}
-use mathlib.Core.Path.{_≡_, refl, ap}
+use mathlib.Core.Path.{_≡_, refl}
 use mathlib.Core.Bool.{Bool, true, false, cond}
 use lib.Dec.{eqb}
 use lib.ListN.{length}
 use Rattle.dsl.specs.Domain.{Frames}
 use Rattle.dsl.specs.declared.note.SeqNote.{SeqNote}
 use Rattle.tempo.specs.Map.{points}
-use Rattle.groove.specs.Timing.{grooveOf}
 use Rattle.groove.specs.Length.{soundedOf}
-use Rattle.groove.specs.Mapped.{mappedOf}
 use Rattle.groove.proofs.Room.{length-least, length-most, mapped-least, mapped-most, sounded-le}
 use Rattle.score.specs.Score.{durOf, straightPlace, mappedPlace, placeOf}
 use Rattle.score.specs.declared.place.Place.{Place}

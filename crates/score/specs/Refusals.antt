@@ -2,7 +2,7 @@
 use Prim.Native.Nat.{ℕ, _+_, _-_, _%_, _^_, _<_}
 use mathlib.Core.Path.{_≡_}
 use mathlib.Core.List.{List, [], _∷_, _++_, map}
-use mathlib.Core.Bool.{Bool, false, cond, not}
+use mathlib.Core.Bool.{not}
 use lib.ListN.{length}
 use lib.Dec.{ltb, eqb}
 use Rattle.ieee.specs.Numbers.{c0, c1, c1000}

@@ -8,8 +8,7 @@ use native.Mathlib.Omega.{arith}
 use native.Mathlib.Nat.{add-zero, le-refl}
 use lib.ListN.{length, getD}
 use lib.Dec.{ltb, eqb}
-use lib.Ieee.{Float, binary32, ofBits, lt}
-use Rattle.ieee.specs.Numbers.{c0}
+use lib.Ieee.{Float, binary32, ofBits}
 use Rattle.laws.specs.Listed.{listed}
 use Rattle.laws.proofs.Listed.{from-map, listed-same}
 use Rattle.rng.specs.SplitMix64.{stateAfter}

@@ -1,11 +1,10 @@
 -- The loops over the points of a tempo map: what one point does to a walk. Use with `ahead`, the walk from a place on. Assumes nothing.
-use Prim.Native.Nat.{ℕ, suc, _+_, _≤_, _<_, min}
+use Prim.Native.Nat.{ℕ, suc, _≤_, _<_, min}
 use mathlib.Core.Path.{_≡_, refl, sym, ap, _∙_}
 use mathlib.Core.List.{List, [], _∷_}
 use mathlib.Core.Bool.{Bool, true, false, _||_}
 use native.Mathlib.Omega.{arith}
-use native.Mathlib.Numerals.{add-one}
-use lib.ListN.{length, getD, take, drop, drop-of-length-le, length-take}
+use lib.ListN.{length, getD, drop, drop-of-length-le, length-take}
 use lib.Seq.{drop-cons, getD-take}
 use lib.Ieee.{Float, le, lt, eq}
 use Rattle.ieee.specs.Numbers64.{d0}
@@ -52,7 +51,8 @@ module _ (m : TempoMap) (i : ℕ) (lt : i < length (points m)) where
 pub past-all : (m : TempoMap) (i : ℕ) → length (points m) ≤ i → drop i (points m) ≡ []
 past-all m i h = drop-of-length-le (points m) h
 
-pub begun-is : (m : TempoMap) (d : TempoPoint) → 0 < length (points m) → {b : Float} → b ≡ floored (getD (m .points) 0 d .bpm) → record { next = 1; secs = d0; «prev_beat» = d0; bpm = b } ≡ begun (points m)
+pub begun-is :
+    (m : TempoMap) (d : TempoPoint) → 0 < length (points m) → {b : Float} → b ≡ floored (getD (m .points) 0 d .bpm) → record { next = 1; secs = d0; «prev_beat» = d0; bpm = b } ≡ begun (points m)
 unfolding begun
 begun-is m d h e = rw (e, ahead-of m 0 h d)
 
@@ -114,7 +114,9 @@ shared-start [] from to e = rw e (record { start = refl; end = refl; tempo = ref
 shared-start (p ∷ ps) from to e = rw e (record { start = refl; end = refl; tempo = refl })
 
 module _ (m : TempoMap) (from to : Float) {w : Walk} (h : Shared (points m) from to w) {at : Float} (d : TempoPoint) where
-  pub shared-more : w .next < length (points m) → at ≡ beat64 (getD (m .points) (w .next) d .at) → le from at ≡ false → le to at ≡ false → {v : Walk} → v ≡ past w at (getD (m .points) (w .next) d .bpm) → Shared (points m) from to v
+  pub shared-more :
+      w .next < length (points m) → at ≡ beat64 (getD (m .points) (w .next) d .at) →
+      le from at ≡ false → le to at ≡ false → {v : Walk} → v ≡ past w at (getD (m .points) (w .next) d .bpm) → Shared (points m) from to v
   shared-more lt e f t is = record {
     start = walk-more m from w d lt e f is ∙ h .start;
     end = walk-more m to w d lt e t is ∙ h .end;

@@ -1,5 +1,4 @@
 -- Which tempo maps a score may carry: what 31 and 32 judge.
-use Prim.Native.Nat.{ℕ}
 use mathlib.Core.List.{List, [], _∷_}
 use mathlib.Core.Bool.{Bool, true, false, cond}
 use lib.Dec.{eqb, ltb}

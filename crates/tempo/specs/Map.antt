@@ -1,5 +1,5 @@
 -- Tempo maps, as `tempo_map_seconds_at` and `tempo_map_bpm_at` of dsl/mod.rs walk them, in f64, operation by operation.
-use Prim.Native.Nat.{ℕ, suc}
+use Prim.Native.Nat.{suc}
 use mathlib.Core.List.{List, [], _∷_}
 use mathlib.Core.Bool.{cond}
 use lib.ListN.{take, drop, replicate}

@@ -92,4 +92,5 @@ module _ (text : List ℕ) where
       listing-played f h ws is =
           let few : tooLarge (got t (said .rest)) ≡ false = sym (if-false _ (le-ltb _ _ (rw long at f)) (sym (le-ltb _ _ (rw many at h)))) in
           let none : 0 ≡ textRefusal text = sized-as false few in
-          rw (← none, said .is) (λ j. played (seqOf (said .score j .numbers) (said .score j .env) (said .score j .sound)) (is j) (said .score j .numbers .n) (said .score j .seed) (said .score j .draw))
+          rw (← none, said .is)
+          (λ j. played (seqOf (said .score j .numbers) (said .score j .env) (said .score j .sound)) (is j) (said .score j .numbers .n) (said .score j .seed) (said .score j .draw))

@@ -8,10 +8,6 @@ use Rattle.harness_map.specs.Words.{pointIn}
 use Rattle.harness_map.proofs.Reading.{read, read-none, read-more}
 use Rattle.harness_map.proofs.points_in.Statement.{statement}
 use Rattle.harness_map.proofs.points_in.Tie as tie
-use Rattle.harness_map.proofs.points_in.Reads as reads
-use Rattle.harness_map.proofs.points_in.Lts as lts
-use Rattle.harness_map.proofs.point_in.Reads as point-in-reads
-use Rattle.tempo.proofs.map.TempoMap.none.Reads as none-reads
 
 abbrev Inv-loop : tie.InvT-loop
 Inv-loop words n points₀ i₀ points i = (i ≤ n) × (points ≡ read (pointIn words) (noMap .points) i)
@@ -19,39 +15,26 @@ Inv-loop words n points₀ i₀ points i = (i ≤ n) × (points ≡ read (pointI
 abbrev μ-loop : tie.MeasureT-loop
 μ-loop words n points₀ i₀ points i = n - i
 
--- src/lib.rt:50:9
-none-requires : tie.Need-none-requires Inv-loop μ-loop
-none-requires c κs = tt
-
--- src/lib.rt:53:5
 loop-holds : tie.Need-loop-holds Inv-loop μ-loop
 loop-holds c = (omega arith, ap (λ (m : TempoMap). m .points) (c .before .none .ensures) ∙ read-none (pointIn (c .before .before .before .args .words .now)) (noMap .points))
 
--- src/lib.rt:54:21
 point-in-requires : tie.Need-point-in-requires Inv-loop μ-loop
 point-in-requires c κs = omega (arith, c .before .before .before .before .before .pre .1)
 
--- src/lib.rt:54:9
 mul-points : tie.Need-mul-points Inv-loop μ-loop
 mul-points c = record { fits = omega (arith, c .before .before .before .before .before .before .pre .0) }
 
--- src/lib.rt:54:9
 array-set-from-points : tie.Need-array-set-from-points Inv-loop μ-loop
 array-set-from-points c = omega (arith, c .before .before .before .before .before .before .pre .0)
 
--- src/lib.rt:55:9
 add-i : tie.Need-add-i Inv-loop μ-loop
 add-i c = record { fits = omega (arith, c .before .before .before .before .before .before .pre .0) }
 
--- src/lib.rt:53:5
-loop-less : tie.Need-loop-less Inv-loop μ-loop
-loop-less c = omega arith
-
--- src/lib.rt:53:5
 loop-again : tie.Need-loop-again Inv-loop μ-loop
-loop-again c = (omega arith, read-more (pointIn (c .before .before .before .before .before .before .args .words .now)) (noMap .points) (c .before .before .loop .i) (omega (arith, c .before .before .before .before .before .before .pre .0)) (c .before .before .loop .inv .1) (c .point-in .ensures))
+loop-again c =
+    let b6 = c .before .before .before .before .before .before in
+    (omega arith, read-more (pointIn (b6 .args .words .now)) (noMap .points) (c .before .before .loop .i) (omega (arith, b6 .pre .0)) (c .before .before .loop .inv .1) (c .point-in .ensures))
 
--- src/lib.rt:45:1
 returns : tie.Need-returns Inv-loop μ-loop
 returns c =
     let e : c .before .loop .i ≡ c .before .before .before .before .before .args .n = omega (arith, c .before .loop .inv .0) in
@@ -63,12 +46,12 @@ points-in-spec =
     (tie.spec
     Inv-loop
     μ-loop
-    none-requires
+    (λ c κs. tt)
     loop-holds
     point-in-requires
     mul-points
     array-set-from-points
     add-i
-    loop-less
+    (λ c. omega arith)
     loop-again
     returns)

@@ -1,6 +1,6 @@
 -- `beat::beat::divided` meets its contract. Assumes nothing.
 use Prim.Native.Nat.{_<_, _≤_}
-use mathlib.Core.Path.{_≡_, refl, ap, _∙_}
+use mathlib.Core.Path.{refl, ap, _∙_}
 use native.Mathlib.Omega.{arith}
 use native.Mathlib.Nat.{div-le-self, le-of-dvd, pos-of-dvd-of-pos}
 use lib.IntN.{natAbs}
@@ -12,20 +12,7 @@ use Rattle.beat.proofs.Lowest.{reduced-by}
 use borrow.Author.Needs.{needs}
 use Rattle.beat.proofs.beat.divided.Statement.{statement}
 use Rattle.beat.proofs.beat.divided.Tie as tie
-use Rattle.beat.proofs.beat.divided.Reads as reads
-use Rattle.beat.proofs.beat.divided.Lts as lts
-use Rattle.beat.proofs.beat.unsigned_abs.Reads as unsigned-abs-reads
-use Rattle.beat.proofs.gcd.gcd.Reads as gcd-reads
 
--- src/beat.rt:29:17
-unsigned-abs-requires : tie.Need-unsigned-abs-requires
-unsigned-abs-requires c κs = search needs
-
--- src/beat.rt:29:9
-gcd-requires : tie.Need-gcd-requires
-gcd-requires c κs = search needs
-
--- src/beat.rt:30:22
 cast-top : tie.Need-cast-top
 cast-top c =
     let d = c .before .before in
@@ -36,7 +23,6 @@ cast-top c =
     let fit : SFits w64 (d .args .num) = search needs in
     record { sfits = omega arith }
 
--- src/beat.rt:30:15
 div-top : tie.Need-div-top
 div-top c =
     let d = c .before .before in
@@ -47,7 +33,6 @@ div-top c =
     let fit : SFits w64 (d .args .num) = search needs in
     (least, rw (toZ-ofZ fit, toZ-pos w64 {n = g} (omega arith)) (quot-fits (d .args .num) g (d .pre .0)))
 
--- src/beat.rt:31:18
 div-bottom : tie.Need-div-bottom
 div-bottom c =
     let d = c .before .before in
@@ -58,7 +43,6 @@ div-bottom c =
     let fit : SFits w64 (d .args .num) = search needs in
     least
 
--- src/beat.rt:34:14
 cast-t9 : tie.Need-cast-t9
 cast-t9 c =
     let d = c .before .before in
@@ -69,7 +53,6 @@ cast-t9 c =
     let fit : SFits w64 (d .args .num) = search needs in
     record { fits = omega (arith, div-le-self (d .args .den) g) }
 
--- src/beat.rt:24:1
 returns : tie.Need-returns
 returns c =
     let d = c .before .before in
@@ -83,4 +66,4 @@ returns c =
 pub divided-spec : {M : Type 1} → statement M
 divided-spec =
     tie.close
-    (tie.spec unsigned-abs-requires gcd-requires cast-top div-top div-bottom cast-t9 returns)
+    (tie.spec (λ c κs. search needs) (λ c κs. search needs) cast-top div-top div-bottom cast-t9 returns)

@@ -1,11 +1,8 @@
 use native.Mathlib.Omega.{arith}
 use native.Mathlib.Nat.{mod-lt}
-use borrow.Author.Needs.{needs}
 use Rattle.beat.proofs.Euclid.{Steps, steps-none, steps-more, steps-end}
 use Rattle.beat.proofs.gcd.gcd.Statement.{statement}
 use Rattle.beat.proofs.gcd.gcd.Tie as tie
-use Rattle.beat.proofs.gcd.gcd.Reads as reads
-use Rattle.beat.proofs.gcd.gcd.Lts as lts
 
 abbrev Inv-loop : tie.InvT-loop
 Inv-loop x y a₀ b₀ a b = Steps x y a b
@@ -13,25 +10,17 @@ Inv-loop x y a₀ b₀ a b = Steps x y a b
 abbrev μ-loop : tie.MeasureT-loop
 μ-loop x y a₀ b₀ a b = b
 
--- src/lib.rt:4:5
 loop-holds : tie.Need-loop-holds Inv-loop μ-loop
 loop-holds c = steps-none
 
--- src/lib.rt:5:17
-rem-t : tie.Need-rem-t Inv-loop μ-loop
-rem-t c = omega arith
-
--- src/lib.rt:4:5
 loop-less : tie.Need-loop-less Inv-loop μ-loop
 loop-less c = mod-lt _ (omega arith)
 
--- src/lib.rt:4:5
 loop-again : tie.Need-loop-again Inv-loop μ-loop
 loop-again c = steps-more (c .before .loop .inv)
 
--- src/lib.rt:1:1
 returns : tie.Need-returns Inv-loop μ-loop
 returns c = steps-end (c .before .loop .inv) (omega arith)
 
 pub gcd-spec : {M : Type 1} → statement M
-gcd-spec = tie.close (tie.spec Inv-loop μ-loop loop-holds rem-t loop-less loop-again returns)
+gcd-spec = tie.close (tie.spec Inv-loop μ-loop loop-holds (λ c. omega arith) loop-less loop-again returns)

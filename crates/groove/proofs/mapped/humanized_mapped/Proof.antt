@@ -6,33 +6,7 @@ use Rattle.groove.specs.Mapped.{humanDelay64}
 use borrow.Author.Needs.{needs}
 use Rattle.groove.proofs.mapped.humanized_mapped.Statement.{statement}
 use Rattle.groove.proofs.mapped.humanized_mapped.Tie as tie
-use Rattle.groove.proofs.mapped.humanized_mapped.Reads as reads
-use Rattle.groove.proofs.mapped.humanized_mapped.Lts as lts
-use Rattle.groove.proofs.humanize.humanize_draws.Reads as humanize-draws-reads
-use Rattle.groove.proofs.timing.human_gain.Reads as human-gain-reads
-use Rattle.std.proofs.num.f32_to_f64_with_nan.Reads as f32-to-f64-with-nan-reads
 
--- src/mapped.rt:66:13
-humanize-draws-requires : tie.Need-humanize-draws-requires
-humanize-draws-requires c κs = search needs
-
--- src/mapped.rt:67:13
-f32-to-f64-with-nan-requires : tie.Need-f32-to-f64-with-nan-requires
-f32-to-f64-with-nan-requires c κs = search needs
-
--- src/mapped.rt:68:13
-f32-to-f64-with-nan-requires-2 : tie.Need-f32-to-f64-with-nan-requires-2
-f32-to-f64-with-nan-requires-2 c κs = search needs
-
--- src/mapped.rt:69:13
-f32-to-f64-with-nan-requires-3 : tie.Need-f32-to-f64-with-nan-requires-3
-f32-to-f64-with-nan-requires-3 c κs = search needs
-
--- src/mapped.rt:72:19
-human-gain-requires : tie.Need-human-gain-requires
-human-gain-requires c κs = search needs
-
--- src/mapped.rt:70:9
 returns : tie.Need-returns
 unfolding humanDelay64 humanGain
 returns c =
@@ -42,7 +16,6 @@ returns c =
       if-true _ taken (rw (c .human-gain .ensures, draws)),
     )
 
--- src/mapped.rt:60:1
 returns-2 : tie.Need-returns-2
 unfolding humanDelay64 humanGain
 returns-2 c = (if-false _ (c .if1 .left) refl, if-false _ (c .if1 .left) refl)
@@ -51,10 +24,10 @@ pub humanized-mapped-spec : {M : Type 1} → statement M
 humanized-mapped-spec =
     tie.close
     (tie.spec
-    humanize-draws-requires
-    f32-to-f64-with-nan-requires
-    f32-to-f64-with-nan-requires-2
-    f32-to-f64-with-nan-requires-3
-    human-gain-requires
+    (λ c κs. search needs)
+    (λ c κs. search needs)
+    (λ c κs. search needs)
+    (λ c κs. search needs)
+    (λ c κs. search needs)
     returns
     returns-2)

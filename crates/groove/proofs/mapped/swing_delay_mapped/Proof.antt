@@ -6,24 +6,11 @@ use Rattle.groove.specs.Mapped.{swingDelay64}
 use borrow.Author.Needs.{needs}
 use Rattle.groove.proofs.mapped.swing_delay_mapped.Statement.{statement}
 use Rattle.groove.proofs.mapped.swing_delay_mapped.Tie as tie
-use Rattle.groove.proofs.mapped.swing_delay_mapped.Reads as reads
-use Rattle.groove.proofs.mapped.swing_delay_mapped.Lts as lts
-use Rattle.std.proofs.num.f32_to_f64_with_nan.Reads as f32-to-f64-with-nan-reads
 
--- src/mapped.rt:48:13
-f32-to-f64-with-nan-requires : tie.Need-f32-to-f64-with-nan-requires
-f32-to-f64-with-nan-requires c κs = search needs
-
--- src/mapped.rt:49:23
-f32-to-f64-with-nan-requires-2 : tie.Need-f32-to-f64-with-nan-requires-2
-f32-to-f64-with-nan-requires-2 c κs = search needs
-
--- src/mapped.rt:49:9
 returns : tie.Need-returns
 unfolding swingDelay64
 returns c = if-true _ (eq-eqb _ _ (c .before .before .if1 .taken)) (rw (c .f32-to-f64-with-nan2 .ensures, c .before .f32-to-f64-with-nan .ensures))
 
--- src/mapped.rt:44:1
 returns-2 : tie.Need-returns-2
 unfolding swingDelay64
 returns-2 c = if-false _ (ne-eqb _ _ (c .if1 .left)) refl
@@ -31,4 +18,4 @@ returns-2 c = if-false _ (ne-eqb _ _ (c .if1 .left)) refl
 pub swing-delay-mapped-spec : {M : Type 1} → statement M
 swing-delay-mapped-spec =
     tie.close
-    (tie.spec f32-to-f64-with-nan-requires f32-to-f64-with-nan-requires-2 returns returns-2)
+    (tie.spec (λ c κs. search needs) (λ c κs. search needs) returns returns-2)

@@ -28,6 +28,7 @@ returns-3 c =
 returns-4 : tie.Need-returns-4
 returns-4 c =
     let b10 = c .before .before .before .before .before .before .before .before .before .before in
+    let b10 = b10 in
     let b17 = b10 .before .before .before .before .before .before .before in
     let b18 = b17 .before in
     let b20 = b18 .before .before in
@@ -35,7 +36,8 @@ returns-4 c =
     let voice = sym (b24 .voice .given .1) ∙ b24 .before .before .voice-at .ensures in
     let env = sym (b20 .env .given .1) ∙ b20 .before .before .env-at .ensures in
     let call = rw (b17 .map-of .ensures) at (b10 .render-seq .ensures) in
-    call-holds _ _ voice _ _ _ env (eq-eqb _ _ (b18 .if1 .left)) (b10 .before .before .before .before .before .new .ensures) call (c .number-of .ensures) (c .before .draws-of .ensures) (c .before .before .state .ensures) refl
+    call-holds _ _ voice _ _ _ env (eq-eqb _ _ (b18 .if1 .left))
+    (b10 .before .before .before .before .before .new .ensures) call (c .number-of .ensures) (c .before .draws-of .ensures) (c .before .before .state .ensures) refl
 
 pub h-score-spec : {M : Type 1} → statement M
 h-score-spec =

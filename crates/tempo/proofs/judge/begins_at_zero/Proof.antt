@@ -13,18 +13,10 @@ use Rattle.tempo.proofs.Judging.{begins-none, bits-zero, begins}
 use borrow.Author.Needs.{needs}
 use Rattle.tempo.proofs.judge.begins_at_zero.Statement.{statement}
 use Rattle.tempo.proofs.judge.begins_at_zero.Tie as tie
-use Rattle.tempo.proofs.judge.begins_at_zero.Reads as reads
-use Rattle.tempo.proofs.judge.begins_at_zero.Lts as lts
 
--- src/judge.rt:64:9
 returns : tie.Need-returns
 returns c = begins-none _ (c .if1 .taken)
 
--- src/judge.rt:66:17
-element-copy-out-first : tie.Need-element-copy-out-first
-element-copy-out-first c = search needs
-
--- src/judge.rt:60:1
 returns-2 : tie.Need-returns-2
 returns-2 c =
     let d = c .before .before .before .before .before in
@@ -35,4 +27,4 @@ returns-2 c =
     bits-zero _ z ∙ sym (begins m _ some)
 
 pub begins-at-zero-spec : {M : Type 1} → statement M
-begins-at-zero-spec = tie.close (tie.spec returns element-copy-out-first returns-2)
+begins-at-zero-spec = tie.close (tie.spec returns (λ c. search needs) returns-2)

@@ -1,5 +1,5 @@
 -- `tempo::judge::is_fine` meets its contract. Assumes nothing.
-use mathlib.Core.Path.{_≡_, refl}
+use mathlib.Core.Path.{refl}
 use borrow.Author.Tests.{eq-eqb, ne-eqb}
 use mir.Facts.{toZ-ofZ}
 use mir.Syntax.{w64}
@@ -10,16 +10,11 @@ use Rattle.tempo.proofs.Judging.{size-above, size-below, size-within}
 use borrow.Author.Needs.{needs}
 use Rattle.tempo.proofs.judge.is_fine.Statement.{statement}
 use Rattle.tempo.proofs.judge.is_fine.Tie as tie
-use Rattle.tempo.proofs.judge.is_fine.Reads as reads
-use Rattle.tempo.proofs.judge.is_fine.Lts as lts
-use Rattle.float.proofs.within_f32.Reads as within-f32-reads
 
--- src/judge.rt:15:9
 returns : tie.Need-returns
 unfolding fineAt
 returns c = if-true _ (eq-eqb _ _ (c .if1 .taken)) refl
 
--- src/judge.rt:18:9
 returns-2 : tie.Need-returns-2
 unfolding fineAt
 returns-2 c =
@@ -27,7 +22,6 @@ returns-2 c =
     let s : SFits w64 z = search needs in
     if-false _ (ne-eqb _ _ (c .before .if1 .left)) (if-true _ (size-above z (rw (toZ-ofZ s) at (c .if2 .taken))) refl)
 
--- src/judge.rt:21:9
 returns-3 : tie.Need-returns-3
 unfolding fineAt
 returns-3 c =
@@ -35,17 +29,14 @@ returns-3 c =
     let s : SFits w64 z = search needs in
     if-false _ (ne-eqb _ _ (c .before .before .if1 .left)) (if-true _ (size-below z (rw (toZ-ofZ s) at (c .if3 .taken))) refl)
 
--- src/judge.rt:23:5
-within-f32-requires : tie.Need-within-f32-requires
-within-f32-requires c κs = search needs
-
--- src/judge.rt:9:1
 returns-4 : tie.Need-returns-4
 unfolding fineAt
 returns-4 c =
-    let z = c .before .before .before .before .before .before .before .args .p .at .num in
+    let b7 = c .before .before .before .before .before .before .before in
+    let z = b7 .args .p .at .num in
     let s : SFits w64 z = search needs in
-    if-false _ (ne-eqb _ _ (c .before .before .before .if1 .left)) (if-false _ (size-within z (rw (toZ-ofZ s) at (c .before .before .if2 .left)) (rw (toZ-ofZ s) at (c .before .if3 .left))) (c .within-f32 .ensures))
+    if-false _ (ne-eqb _ _ (c .before .before .before .if1 .left))
+    (if-false _ (size-within z (rw (toZ-ofZ s) at (c .before .before .if2 .left)) (rw (toZ-ofZ s) at (c .before .if3 .left))) (c .within-f32 .ensures))
 
 pub is-fine-spec : {M : Type 1} → statement M
-is-fine-spec = tie.close (tie.spec returns returns-2 returns-3 within-f32-requires returns-4)
+is-fine-spec = tie.close (tie.spec returns returns-2 returns-3 (λ c κs. search needs) returns-4)

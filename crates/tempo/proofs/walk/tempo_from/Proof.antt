@@ -8,11 +8,6 @@ use Rattle.tempo.specs.Map.{points}
 use Rattle.tempo.proofs.Walking.{onward-tempo, tempo-here, tempo-more, tempo-end}
 use Rattle.tempo.proofs.walk.tempo_from.Statement.{statement}
 use Rattle.tempo.proofs.walk.tempo_from.Tie as tie
-use Rattle.tempo.proofs.walk.tempo_from.Reads as reads
-use Rattle.tempo.proofs.walk.tempo_from.Lts as lts
-use Rattle.beat.proofs.beat.Beat.to_f64.Reads as to-f64-reads
-use Rattle.tempo.proofs.map.TempoMap.len.Reads as len-reads
-use Rattle.tempo.proofs.walk.floor_bpm.Reads as floor-bpm-reads
 
 abbrev Inv-loop : tie.InvT-loop
 Inv-loop beat map n i₀ bpm₀ i bpm = onward-tempo map beat i bpm ≡ onward-tempo map beat i₀ bpm₀
@@ -20,27 +15,15 @@ Inv-loop beat map n i₀ bpm₀ i bpm = onward-tempo map beat i bpm ≡ onward-t
 abbrev μ-loop : tie.MeasureT-loop
 μ-loop beat map n i₀ bpm₀ i bpm = n - i
 
--- src/walk.rt:90:9
-len-requires : tie.Need-len-requires Inv-loop μ-loop
-len-requires c κs = tt
-
--- src/walk.rt:93:5
 loop-holds : tie.Need-loop-holds Inv-loop μ-loop
 loop-holds c = refl
 
--- src/walk.rt:94:17
 mul-p : tie.Need-mul-p Inv-loop μ-loop
 mul-p c = let most : c .before .before .len .result ≤ 64 = c .before .before .len .ensures .1 in record { fits = omega (arith, most) }
 
--- src/walk.rt:94:17
 element-copy-out-p : tie.Need-element-copy-out-p Inv-loop μ-loop
 element-copy-out-p c = let most : c .before .before .len .result ≤ 64 = c .before .before .len .ensures .1 in omega (arith, most)
 
--- src/walk.rt:96:19
-to-f64-requires : tie.Need-to-f64-requires Inv-loop μ-loop
-to-f64-requires c κs = tt
-
--- src/walk.rt:97:13
 returns : tie.Need-returns Inv-loop μ-loop
 returns c =
     let m = c .before .before .before .before .before .before .before .args .t1 in
@@ -48,19 +31,11 @@ returns c =
     let lt : c .before .before .before .before .before .loop .i < length (points m) = omega (arith, n) in
     tempo-here m _ _ _ _ lt (c .before .to-f64 .ensures) (c .if1 .taken) ∙ c .before .before .before .before .before .loop .inv
 
--- src/walk.rt:99:9
-floor-bpm-requires : tie.Need-floor-bpm-requires Inv-loop μ-loop
-floor-bpm-requires c κs = tt
-
--- src/walk.rt:100:9
 add-i : tie.Need-add-i Inv-loop μ-loop
-add-i c = let most : c .before .before .before .before .before .before .before .len .result ≤ 64 = c .before .before .before .before .before .before .before .len .ensures .1 in record { fits = omega (arith, most) }
+add-i c =
+    let b7 = c .before .before .before .before .before .before .before in
+    let most : b7 .len .result ≤ 64 = b7 .len .ensures .1 in record { fits = omega (arith, most) }
 
--- src/walk.rt:93:5
-loop-less : tie.Need-loop-less Inv-loop μ-loop
-loop-less c = omega arith
-
--- src/walk.rt:93:5
 loop-again : tie.Need-loop-again Inv-loop μ-loop
 loop-again c =
     let m = c .before .before .before .before .before .before .before .before .args .t1 in
@@ -68,7 +43,6 @@ loop-again c =
     let lt : c .before .before .before .before .before .before .loop .i < length (points m) = omega (arith, n) in
     rw add-one (tempo-more m _ _ _ _ lt (c .before .before .to-f64 .ensures) (c .before .if1 .left) (c .floor-bpm .ensures)) ∙ c .before .before .before .before .before .before .loop .inv
 
--- src/walk.rt:87:1
 returns-2 : tie.Need-returns-2 Inv-loop μ-loop
 returns-2 c =
     let m = c .before .before .before .args .t1 in
@@ -82,14 +56,14 @@ tempo-from-spec =
     (tie.spec
     Inv-loop
     μ-loop
-    len-requires
+    (λ c κs. tt)
     loop-holds
     mul-p
     element-copy-out-p
-    to-f64-requires
+    (λ c κs. tt)
     returns
-    floor-bpm-requires
+    (λ c κs. tt)
     add-i
-    loop-less
+    (λ c. omega arith)
     loop-again
     returns-2)

@@ -8,14 +8,7 @@ use Rattle.beat.proofs.Quotient.{cross, cross-fits}
 use borrow.Author.Needs.{needs}
 use Rattle.beat.proofs.beat.Beat.lt.Statement.{statement}
 use Rattle.beat.proofs.beat.Beat.lt.Tie as tie
-use Rattle.beat.proofs.beat.Beat.lt.Reads as reads
-use Rattle.beat.proofs.beat.Beat.lt.Lts as lts
 
--- src/beat.rt:62:32
-cast-left : tie.Need-cast-left
-cast-left c = search needs
-
--- src/beat.rt:62:20
 mul-left : tie.Need-mul-left
 mul-left c =
     let d = c .before .before .before in
@@ -23,11 +16,6 @@ mul-left c =
     let k : d .args .other .den < 4294967296 = omega arith in
     cross-fits (d .args .self .num) (d .args .other .den) s (d .pre .0) k
 
--- src/beat.rt:63:34
-cast-right : tie.Need-cast-right
-cast-right c = search needs
-
--- src/beat.rt:63:21
 mul-right : tie.Need-mul-right
 mul-right c =
     let d = c .before .before .before .before .before .before in
@@ -35,7 +23,6 @@ mul-right c =
     let k : d .args .self .den < 4294967296 = omega arith in
     cross-fits (d .args .other .num) (d .args .self .den) s (d .pre .1) k
 
--- src/beat.rt:58:5
 returns : tie.Need-returns
 unfolding ltBeat
 returns c =
@@ -49,4 +36,4 @@ returns c =
     rw (cross (a .num) (b .den) s (d .pre .0) k, cross (b .num) (a .den) t (d .pre .1) j)
 
 pub lt-spec : {M : Type 1} → statement M
-lt-spec = tie.close (tie.spec cast-left mul-left cast-right mul-right returns)
+lt-spec = tie.close (tie.spec (λ c. search needs) mul-left (λ c. search needs) mul-right returns)

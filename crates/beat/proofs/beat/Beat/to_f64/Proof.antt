@@ -5,24 +5,7 @@ use Rattle.beat.specs.Beat.{beat64}
 use borrow.Author.Needs.{needs}
 use Rattle.beat.proofs.beat.Beat.to_f64.Statement.{statement}
 use Rattle.beat.proofs.beat.Beat.to_f64.Tie as tie
-use Rattle.beat.proofs.beat.Beat.to_f64.Reads as reads
-use Rattle.beat.proofs.beat.Beat.to_f64.Lts as lts
-use Rattle.std.proofs.num.nearest_i64_to_f64.Reads as nearest-i64-to-f64-reads
-use Rattle.std.proofs.num.nearest_u64_to_f64.Reads as nearest-u64-to-f64-reads
 
--- src/beat.rt:54:9
-nearest-i64-to-f64-requires : tie.Need-nearest-i64-to-f64-requires
-nearest-i64-to-f64-requires c κs = search needs
-
--- src/beat.rt:54:79
-cast-nearest-u64-to-f64 : tie.Need-cast-nearest-u64-to-f64
-cast-nearest-u64-to-f64 c = search needs
-
--- src/beat.rt:54:50
-nearest-u64-to-f64-requires : tie.Need-nearest-u64-to-f64-requires
-nearest-u64-to-f64-requires c κs = search needs
-
--- src/beat.rt:51:5
 returns : tie.Need-returns
 unfolding beat64
 returns c =
@@ -33,7 +16,7 @@ pub to-f64-spec : {M : Type 1} → statement M
 to-f64-spec =
     tie.close
     (tie.spec
-    nearest-i64-to-f64-requires
-    cast-nearest-u64-to-f64
-    nearest-u64-to-f64-requires
+    (λ c κs. search needs)
+    (λ c. search needs)
+    (λ c κs. search needs)
     returns)

@@ -7,23 +7,14 @@ use Rattle.tempo.specs.Judge.{inDomain}
 use borrow.Author.Needs.{needs}
 use Rattle.tempo.proofs.map.TempoMap.in_domain.Statement.{statement}
 use Rattle.tempo.proofs.map.TempoMap.in_domain.Tie as tie
-use Rattle.tempo.proofs.map.TempoMap.in_domain.Reads as reads
-use Rattle.tempo.proofs.map.TempoMap.in_domain.Lts as lts
-use Rattle.tempo.proofs.judge.all_fine.Reads as all-fine-reads
 
--- src/judge.rt:78:13
 returns : tie.Need-returns
 unfolding inDomain
 returns c = if-true _ (lt-ltb _ _ (c .if1 .taken)) refl
 
--- src/judge.rt:80:9
-all-fine-requires : tie.Need-all-fine-requires
-all-fine-requires c κs = search needs
-
--- src/judge.rt:74:5
 returns-2 : tie.Need-returns-2
 unfolding inDomain
 returns-2 c = if-false _ (le-ltb 64 (c .before .before .before .args .self .count) (omega arith)) (c .all-fine .ensures)
 
 pub in-domain-spec : {M : Type 1} → statement M
-in-domain-spec = tie.close (tie.spec returns all-fine-requires returns-2)
+in-domain-spec = tie.close (tie.spec returns (λ c κs. search needs) returns-2)

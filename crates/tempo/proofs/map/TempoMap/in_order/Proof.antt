@@ -7,28 +7,17 @@ use Rattle.tempo.proofs.Judging.{domain-fine}
 use borrow.Author.Needs.{needs}
 use Rattle.tempo.proofs.map.TempoMap.in_order.Statement.{statement}
 use Rattle.tempo.proofs.map.TempoMap.in_order.Tie as tie
-use Rattle.tempo.proofs.map.TempoMap.in_order.Reads as reads
-use Rattle.tempo.proofs.map.TempoMap.in_order.Lts as lts
-use Rattle.tempo.proofs.judge.begins_at_zero.Reads as begins-at-zero-reads
-use Rattle.tempo.proofs.judge.rises.Reads as rises-reads
 
--- src/judge.rt:88:13
-begins-at-zero-requires : tie.Need-begins-at-zero-requires
-begins-at-zero-requires c κs = search needs
-
--- src/judge.rt:89:13
 returns : tie.Need-returns
 unfolding inOrder
 returns c = if-false _ (sym (c .before .begins-at-zero .ensures) ∙ not-true _ (c .if1 .taken)) refl
 
--- src/judge.rt:91:9
 rises-requires : tie.Need-rises-requires
 rises-requires c κs = domain-fine _ (c .before .before .pre)
 
--- src/judge.rt:84:5
 returns-2 : tie.Need-returns-2
 unfolding inOrder
 returns-2 c = if-true _ (sym (c .before .before .begins-at-zero .ensures) ∙ not-false _ (c .before .if1 .left)) (c .rises .ensures)
 
 pub in-order-spec : {M : Type 1} → statement M
-in-order-spec = tie.close (tie.spec begins-at-zero-requires returns rises-requires returns-2)
+in-order-spec = tie.close (tie.spec (λ c κs. search needs) returns rises-requires returns-2)

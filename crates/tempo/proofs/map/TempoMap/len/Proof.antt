@@ -6,21 +6,13 @@ use Rattle.tempo.proofs.Walking.{count-whole, count-is}
 use borrow.Author.Needs.{needs}
 use Rattle.tempo.proofs.map.TempoMap.len.Statement.{statement}
 use Rattle.tempo.proofs.map.TempoMap.len.Tie as tie
-use Rattle.tempo.proofs.map.TempoMap.len.Reads as reads
-use Rattle.tempo.proofs.map.TempoMap.len.Lts as lts
 
--- src/map.rt:35:13
 returns : tie.Need-returns
 returns c =
     let m = c .before .before .args .self in
     let k : length (m .points) ≡ 64 = simp length-map at (c .before .before .good .0 .1 .1 .0 .1 .0 .1) in
     (count-whole m k (omega arith), omega arith)
 
--- src/map.rt:37:9
-cast-result : tie.Need-cast-result
-cast-result c = search needs
-
--- src/map.rt:31:5
 returns-2 : tie.Need-returns-2
 returns-2 c =
     let m = c .before .before .before .args .self in
@@ -28,4 +20,4 @@ returns-2 c =
     (count-is m k (omega arith), omega arith)
 
 pub len-spec : {M : Type 1} → statement M
-len-spec = tie.close (tie.spec returns cast-result returns-2)
+len-spec = tie.close (tie.spec returns (λ c. search needs) returns-2)
