@@ -5,6 +5,7 @@ use crate::bench::{chord, fastest, their_score, Bench, Timing};
 use crate::long_scores::ritardando;
 use crate::tempo_points::{points_of, Point};
 use crate::waves::WAVES;
+use std::time::Instant;
 use tono::dsl::{SeqNote, SeqWave, TempoPoint};
 
 const FRAMES: usize = 48_000;
@@ -14,9 +15,10 @@ const STEPS_PER_BEAT: u32 = 64;
 const TEMPI: (f32, f32) = (1000.0, 500.0);
 /// As many chords as make 10^4 notes, one at each step.
 const STEPS: u32 = 625;
-/// Rounds of each side in turn, of which the fastest counts.
-const ROUNDS: usize = 5;
-const SKIPPED_ROUNDS: usize = 200;
+/// Rounds of each side in turn, of which the fastest counts: more where a round is short.
+const ROUNDS: [usize; 2] = [3, 200];
+/// How long all rounds of one score take, about, in nanoseconds.
+const BUDGET: u128 = 1_000_000_000;
 
 fn map_of(points: &[u32]) -> Vec<TempoPoint> {
     points_of(points).iter().map(Point::original).collect()
@@ -37,7 +39,6 @@ fn chords(steps: impl Iterator<Item = u32>, len: u32) -> (Vec<u32>, Vec<SeqNote>
 struct Scored<'a> {
     points: &'a [u32],
     frames: usize,
-    rounds: usize,
 }
 
 impl Scored<'_> {
@@ -50,9 +51,11 @@ impl Scored<'_> {
             steps_per_beat: STEPS_PER_BEAT,
             map: &map,
         };
+        let begun = Instant::now();
         assert_eq!(bench.our_score(wave.0, &words), 0, "the score is accepted");
+        let rounds = BUDGET / (2 * begun.elapsed().as_nanos());
         fastest(
-            self.rounds,
+            (rounds as usize).clamp(ROUNDS[0], ROUNDS[1]),
             notes.len(),
             || bench.our_score(wave.0, &words),
             || their_score(wave.1, &notes, self.frames, timing),
@@ -65,7 +68,6 @@ fn row(points: &[u32], (place, name, wave): (u32, &str, SeqWave)) -> [f64; 3] {
     let scored = Scored {
         points,
         frames: FRAMES,
-        rounds: ROUNDS,
     };
     let times = [
         scored.time((place, wave), chords(0..1, STEPS)),
@@ -108,7 +110,6 @@ fn walks() {
         let scored = Scored {
             points: &points[..4 * count],
             frames: 1,
-            rounds: SKIPPED_ROUNDS,
         };
         let [ours, theirs] = scored.time((3, SeqWave::Sine), chords(1000..1000 + STEPS, 1));
         let ratio = ours / theirs;
