@@ -45,7 +45,9 @@ enum tono_refusal {
     TONO_REFUSED_NOTE_BUFFER = 20,
     TONO_REFUSED_STRING_BUFFER = 21,
     TONO_REFUSED_DRAWS = 22,
-    TONO_REFUSED_REPLY = 23
+    TONO_REFUSED_REPLY = 23,
+    TONO_REFUSED_TEMPO_POINTS = 31,
+    TONO_REFUSED_TEMPO_ORDER = 32
 };
 
 /* What a refusal's number means, in one line; NULL for a number that is none. */
@@ -72,6 +74,8 @@ static inline const char *tono_reason(int number)
     case TONO_REFUSED_STRING_BUFFER: return "the string buffer is shorter than 9,600 values";
     case TONO_REFUSED_DRAWS: return "the draw count would pass 2^64 - 1";
     case TONO_REFUSED_REPLY: return "the reply buffer is shorter than the listing";
+    case TONO_REFUSED_TEMPO_POINTS: return "there are more than 64 tempo points, or one has a zero denominator, a numerator beyond 1,000,000,000 or a tempo not from 1 to 1,000";
+    case TONO_REFUSED_TEMPO_ORDER: return "the first tempo point is not at beat 0, or a point's beat is not after the one before it";
     default: return NULL;
     }
 }

@@ -1,12 +1,40 @@
 // Copies the original's files out of $TONO_SRC; without it, from beside this repository. They stay as
 // they are, but that render/seq.rs gets one line at its end, which makes the shim a part of that
-// module. Of render/mod.rs, which leans on files that are not there, `adsr` is taken by its text.
+// module. Of files that lean on others or on crates that are not there, items are taken by their text:
+// `adsr` of render/mod.rs, the tempo map of dsl/mod.rs, and `Beat` of units.rs.
 use std::env;
 use std::fs;
 use std::path::{Path, PathBuf};
 
 const DEFAULT_SOURCE: &str = "../../../shared/docs/src";
 const FILES: [&str; 5] = ["det", "dsp", "render/kit", "render/osc", "render/seq"];
+/// Where items go, the file that has them, and how each of them starts.
+const PARTS: [(&str, &str, &[&str]); 3] = [
+    ("adsr", "render/mod", &["pub(super) fn adsr("]),
+    (
+        "tempo",
+        "dsl/mod",
+        &[
+            "pub struct TempoPoint {",
+            "pub fn tempo_map_seconds_at(",
+            "pub fn tempo_map_bpm_at(",
+        ],
+    ),
+    (
+        "units",
+        "units",
+        &[
+            "pub struct Beat {",
+            "impl Beat {",
+            "fn checked(",
+            "impl Ord for Beat {",
+            "impl PartialOrd for Beat {",
+            "pub enum BeatError {",
+        ],
+    ),
+];
+/// Structs are copied as in the source; what they are to serde is left out.
+const DERIVED: &str = "#[derive(Clone, Copy, PartialEq)]\n";
 
 fn main() {
     println!("cargo:rerun-if-env-changed=TONO_SRC");
@@ -26,8 +54,11 @@ fn main() {
         let name = file.replace('/', "_");
         fs::write(out.join(format!("{name}.rs")), text).expect("OUT_DIR can be written");
     }
-    let render = read(&source.join("render/mod.rs.txt"));
-    fs::write(out.join("adsr.rs"), item(&render, "pub(super) fn adsr(")).expect("the same");
+    for (part, file, items) in PARTS {
+        let text = read(&source.join(format!("{file}.rs.txt")));
+        let items: String = items.iter().map(|start| item(&text, start)).collect();
+        fs::write(out.join(format!("{part}.rs")), items).expect("the same");
+    }
     fs::write(out.join("files.rs"), declarations(&out)).expect("the same");
 }
 
@@ -55,12 +86,16 @@ fn read(file: &Path) -> String {
 }
 
 /// From the line that starts with `start` up to the closing brace at the left margin.
-fn item<'a>(text: &'a str, start: &str) -> &'a str {
+fn item(text: &str, start: &str) -> String {
     let from = match text.find(&format!("\n{start}")) {
         Some(at) => at + 1,
         None => panic!("no {start}"),
     };
     let rest = &text[from..];
     let end = rest.find("\n}\n").expect("an item ends") + 3;
-    &rest[..end]
+    let derived = match start.starts_with("pub struct") {
+        true => DERIVED,
+        false => "",
+    };
+    derived.to_string() + &rest[..end]
 }

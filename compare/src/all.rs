@@ -1,7 +1,10 @@
 //! Every comparison in one run, with one table at the end.
 
 use crate::engine::Count;
-use crate::{boards, helpers, kernels, note_calls, progress, random, score_calls, texts, voices};
+use crate::{
+    boards, helpers, kernels, mapped_calls, note_calls, progress, random, score_calls, texts,
+    voices,
+};
 use std::process::{Command, Stdio};
 
 const DAMAGED: &str = concat!(env!("CARGO_MANIFEST_DIR"), "/robust/run");
@@ -11,7 +14,7 @@ const TEXTS: u64 = 1_000_000;
 /// One row of the table: what is compared, with what, and the run of one case in a number.
 type Part = (&'static str, &'static str, fn(u64) -> Count);
 
-const PARTS: [Part; 8] = [
+const PARTS: [Part; 9] = [
     ("float helpers", "Rust's operations", helpers::run),
     ("kernels", "det.rs and the request's words", |scale| {
         kernels::run_all(kernels::COUNT.div_ceil(scale), scale)
@@ -25,6 +28,11 @@ const PARTS: [Part; 8] = [
     ("score calls in lists", "01's tally", |scale| {
         score_calls::run(score_calls::COUNT.div_ceil(scale))
     }),
+    (
+        "mapped score calls in lists",
+        "render_seq_mapped",
+        |scale| mapped_calls::run(mapped_calls::COUNT.div_ceil(scale)),
+    ),
     ("text scores", "01's text call", |scale| {
         texts::run(texts::COUNT.div_ceil(scale))
     }),

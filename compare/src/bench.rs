@@ -2,11 +2,12 @@
 //! library and original.
 
 use crate::harness::{h_note, h_score, NoteArgs, ScoreArgs};
+use crate::mapped_bench;
 use crate::voice_vectors::USUAL;
 use crate::waves::{envelope, voice_of, WAVES};
 use std::hint::black_box;
 use std::time::Instant;
-use tono::dsl::{SeqNote, SeqWave, Value};
+use tono::dsl::{SeqNote, SeqWave, TempoPoint, Value};
 use tono::dsp::Rng;
 use tono::render::seq::shim::{note_signal, render, Voice};
 
@@ -17,6 +18,11 @@ const FRAMES: usize = 48_000;
 const ENVELOPE: [f32; 5] = [0.01, 0.1, 0.7, 0.2, 0.2];
 /// A step of a second.
 const TEMPO: f32 = 60.0;
+const SECONDS: Timing = Timing {
+    tempo: TEMPO,
+    steps_per_beat: 1,
+    map: &[],
+};
 pub const GAIN: f32 = 0.8;
 /// Rounds of each side in turn, of which the fastest counts.
 const ROUNDS: usize = 9;
@@ -25,6 +31,7 @@ const ROUNDS: usize = 9;
 pub struct Bench {
     tempo: f32,
     steps_per_beat: u32,
+    points: Vec<u32>,
     pitch: Vec<f32>,
     duty: Vec<f32>,
     out: Vec<f32>,
@@ -45,6 +52,7 @@ impl Bench {
         Bench {
             tempo: TEMPO,
             steps_per_beat: 1,
+            points: Vec::new(),
             pitch: vec![440.0; frames],
             duty: vec![0.5; frames],
             out: vec![0.0; frames],
@@ -58,6 +66,14 @@ impl Bench {
         Bench {
             tempo,
             steps_per_beat,
+            ..self
+        }
+    }
+
+    /// The same under a tempo map.
+    pub fn under(self, points: &[u32]) -> Bench {
+        Bench {
+            points: points.to_vec(),
             ..self
         }
     }
@@ -85,6 +101,7 @@ impl Bench {
             rate: RATE,
             tempo: self.tempo,
             steps_per_beat: self.steps_per_beat,
+            points: &self.points,
             swing: 0.0,
             humanize: 0.0,
             wave,
@@ -106,13 +123,15 @@ impl Bench {
     }
 }
 
-pub fn their_score(
-    wave: SeqWave,
-    notes: &[SeqNote],
-    frames: usize,
-    tempo: f32,
-    steps_per_beat: u32,
-) -> Vec<f32> {
+/// What a score of the original's has beside its notes and frames.
+#[derive(Clone, Copy)]
+pub struct Timing<'a> {
+    pub tempo: f32,
+    pub steps_per_beat: u32,
+    pub map: &'a [TempoPoint],
+}
+
+pub fn their_score(wave: SeqWave, notes: &[SeqNote], frames: usize, timing: Timing) -> Vec<f32> {
     let voice = Voice {
         duty: 0.5,
         env: envelope(ENVELOPE),
@@ -120,8 +139,9 @@ pub fn their_score(
     };
     render(
         &voice,
-        tempo,
-        steps_per_beat,
+        timing.map,
+        timing.tempo,
+        timing.steps_per_beat,
         notes,
         frames,
         RATE,
@@ -148,12 +168,12 @@ pub fn fastest<A, B>(
     best.map(|time| time / samples as f64)
 }
 
-/// A note of each pitch from the first step on: the library's words, and the original's notes.
-fn chord(notes: usize) -> (Vec<u32>, Vec<SeqNote>) {
-    let words = |p: &f32| [0, 1, 0, p.to_bits(), GAIN.to_bits()];
+/// A note of each pitch at a step: the library's words, and the original's notes.
+pub fn chord(notes: usize, step: u32, len: u32) -> (Vec<u32>, Vec<SeqNote>) {
+    let words = |p: &f32| [step, len, 0, p.to_bits(), GAIN.to_bits()];
     let note = |p: &f32| SeqNote {
-        step: 0,
-        len: 1,
+        step,
+        len,
         pitch: Value::Const(*p),
         gain: GAIN,
     };
@@ -173,12 +193,12 @@ fn row(bench: &mut Bench, place: u32, name: &str, wave: SeqWave) -> [f64; 3] {
         || shared.their_note(wave),
     );
     let [one, many] = [1, 16].map(|count| {
-        let (words, notes) = chord(count);
+        let (words, notes) = chord(count, 0, 1);
         fastest(
             ROUNDS,
             FRAMES * count,
             || bench.our_score(place, &words),
-            || their_score(wave, &notes, FRAMES, TEMPO, 1),
+            || their_score(wave, &notes, FRAMES, SECONDS),
         )
     });
     print!("| {name} |");
@@ -189,7 +209,8 @@ fn row(bench: &mut Bench, place: u32, name: &str, wave: SeqWave) -> [f64; 3] {
     [note, one, many].map(|[ours, theirs]| ours / theirs)
 }
 
-/// Prints a table in Markdown: nanoseconds a sample of a note, library and original, and their ratio.
+/// Prints tables in Markdown: nanoseconds a sample of a note, library and original, and their ratio;
+/// then those of mapped scores.
 pub fn run() {
     println!("| wave | note call | original | ratio | score of one note | original | ratio | chord of 16 | original | ratio |");
     println!("{}|", "|---".repeat(10));
@@ -203,4 +224,5 @@ pub fn run() {
     }
     let [note, one, many] = logs.map(|log| (log / WAVES.len() as f64).exp());
     println!("| geometric mean | | | {note:.2} | | | {one:.2} | | | {many:.2} |");
+    mapped_bench::run();
 }

@@ -83,6 +83,18 @@ pub const ORDER: [u32; 8] = [
     0xff80_0001,
 ];
 
+/// The same at f64.
+pub const ORDER_64: [u64; 8] = [
+    0xfff0_0000_0000_0000,
+    0xbff0_0000_0000_0000,
+    0x8000_0000_0000_0000,
+    0,
+    0x3ff0_0000_0000_0000,
+    0x7ff0_0000_0000_0000,
+    0x7ff8_0000_0000_0000,
+    0xfff0_0000_0000_0001,
+];
+
 /// Low and high of a clamp: -1 and 1, both zeros, the zeros exchanged, -1 and 1 exchanged, a NaN
 /// at either place.
 pub const RANGES: [(u32, u32); 6] = [

@@ -43,6 +43,23 @@ pub fn f64_case(i: u64) -> f64 {
     f64::from_bits(magnitude | (sign << 63))
 }
 
+/// Case number i of two: the borders with both signs in every pair, then equal, opposite and neighbouring
+/// numbers and any two in turn.
+pub fn f64_pair(i: u64) -> (f64, f64) {
+    let each = 2 * BORDERS.len() as u64;
+    if i < each * each {
+        return (f64_case(i / each), f64_case(i % each));
+    }
+    let (a, b) = (f64_case(2 * i), f64_case(2 * i + 1));
+    match i % 8 {
+        0 => (a, a),
+        1 => (a, -a),
+        2 => (a, f64::from_bits(a.to_bits().wrapping_add(1))),
+        3 => (f64::from_bits(b.to_bits().wrapping_add(1)), b),
+        _ => (a, b),
+    }
+}
+
 /// The pattern, or that of the f64 just below or above.
 fn near(pattern: u64, r: u64) -> u64 {
     match (r >> 40) % 3 {

@@ -1,7 +1,7 @@
 //! How the time of a call grows with the frames of a note and with the notes of a score, library and
 //! original.
 
-use crate::bench::{fastest, their_score, Bench, GAIN};
+use crate::bench::{fastest, their_score, Bench, Timing, GAIN};
 use crate::waves::WAVES;
 use tono::dsl::{SeqNote, Value};
 
@@ -14,6 +14,11 @@ const STEP: usize = 480;
 /// A hundred steps a second, at a tempo of the domain: 60 × 100 / 16.
 const TEMPO: f32 = 375.0;
 const STEPS_PER_BEAT: u32 = 16;
+const TIMING: Timing = Timing {
+    tempo: TEMPO,
+    steps_per_beat: STEPS_PER_BEAT,
+    map: &[],
+};
 /// The waves that are tried: one with no state, one with a phase, one with draws.
 const TRIED: [&str; 3] = ["cowbell", "sine", "noise"];
 
@@ -66,7 +71,7 @@ fn by_notes() {
                 rounds(count * STEP),
                 count,
                 || bench.our_score(place, &words),
-                || their_score(wave, &notes, STEPS * STEP, TEMPO, STEPS_PER_BEAT),
+                || their_score(wave, &notes, STEPS * STEP, TIMING),
             );
             line("notes", name, count, time);
         }

@@ -15,6 +15,8 @@ unsafe extern "C" {
     pub safe fn h_trunc64(x: f64) -> f64;
     pub safe fn h_usize(x: f32) -> usize;
     pub safe fn h_i64(x: f64) -> i64;
+    pub safe fn h_usize64(x: f64) -> usize;
+    pub safe fn h_max64(a: f64, b: f64) -> f64;
     pub safe fn h_draw(state: u64) -> u64;
     pub safe fn h_bi(state: u64) -> f32;
     pub safe fn h_sin(x: f64) -> f64;
@@ -70,6 +72,8 @@ mod raw {
             rate: u32,
             tempo: f32,
             steps_per_beat: u32,
+            points: *const u32,
+            points_len: usize,
             swing: f32,
             humanize: f32,
             wave: u32,
@@ -138,6 +142,7 @@ pub struct ScoreArgs<'a> {
     pub rate: u32,
     pub tempo: f32,
     pub steps_per_beat: u32,
+    pub points: &'a [u32],
     pub swing: f32,
     pub humanize: f32,
     pub wave: u32,
@@ -162,6 +167,8 @@ pub fn h_score(args: ScoreArgs) -> u32 {
             args.rate,
             args.tempo,
             args.steps_per_beat,
+            args.points.as_ptr(),
+            args.points.len(),
             args.swing,
             args.humanize,
             args.wave,

@@ -34,6 +34,7 @@ mod plain {
         sqrt(x: f32) -> f32 { x.sqrt() }
         to_i64(x: f64) -> i64 { x as i64 }
         to_usize(x: f32) -> usize { x as usize }
+        to_usize64(x: f64) -> usize { x as usize }
         next(state: u64) -> u64 { draw(state) }
         bi(state: u64) -> f32 { (draw(state) >> 40) as f32 / 16777216.0 * 2.0 - 1.0 }
     }
@@ -90,6 +91,13 @@ pub fn run() {
     row("i64", &turns, |x| h_i64(x), |x| plain::to_i64(x));
     let frames = spread_f32(0.0, 200_000.0);
     row("usize", &frames, |x| h_usize(x), |x| plain::to_usize(x));
+    let frames = spread(0.0, 200_000.0);
+    row(
+        "usize64",
+        &frames,
+        |x| h_usize64(x),
+        |x| plain::to_usize64(x),
+    );
     let states: Vec<u64> = (0..ARGUMENTS as u64).map(draw).collect();
     row("draw", &states, |s| h_draw(s), |s| plain::next(s));
     row("bi", &states, |s| h_bi(s), |s| plain::bi(s));

@@ -1,11 +1,12 @@
 //! The float helpers against Rust's own operations.
 
-use crate::cases::f64_case;
+use crate::cases::{f64_case, f64_pair};
 use crate::engine::{compare, Cases, Count};
 use crate::harness::*;
 
 const F32_PATTERNS: u64 = 1 << 32;
 const F64_CASES: u64 = 1_000_000_000;
+const F64_PAIRS: u64 = 100_000_000;
 
 /// Compares every function on one in `scale` of the cases.
 pub fn run(scale: u64) -> Count {
@@ -16,6 +17,10 @@ pub fn run(scale: u64) -> Count {
     let double = Cases {
         count: F64_CASES.div_ceil(scale),
         case: f64_case,
+    };
+    let pairs = Cases {
+        count: F64_PAIRS.div_ceil(scale),
+        case: f64_pair,
     };
     let count = compare("floor", &single, |x| h_floor(x), f32::floor)
         + compare("trunc", &single, |x| h_trunc(x), f32::trunc)
@@ -29,6 +34,17 @@ pub fn run(scale: u64) -> Count {
         + compare("floor64", &double, |x| h_floor64(x), f64::floor)
         + compare("trunc64", &double, |x| h_trunc64(x), f64::trunc)
         + compare("round64", &double, |x| h_round64(x), f64::round)
-        + compare("i64", &double, |x| h_i64(x), |x| x as i64);
+        + compare("i64", &double, |x| h_i64(x), |x| x as i64)
+        + compare("usize64", &double, |x| h_usize64(x), |x| x as usize)
+        + compare("max64", &pairs, |(a, b)| h_max64(a, b), max);
     count.printed()
+}
+
+/// By 01's rule: "max(a, b) is a if a > b, else b".
+fn max((a, b): (f64, f64)) -> f64 {
+    if a > b {
+        a
+    } else {
+        b
+    }
 }

@@ -2,6 +2,7 @@
 
 use crate::score::Score;
 use crate::score_cases::{curve, note};
+use crate::tempo_points::{words_of, Point};
 use crate::voice_vectors::USUAL;
 
 /// "n at most 16,777,216"
@@ -18,6 +19,7 @@ pub fn longest() -> [Score; 2] {
         rate: 192_000,
         tempo: 1000.0,
         steps_per_beat: 64,
+        points: Vec::new(),
         swing: 0.0,
         humanize: 0.0,
         wave: 4,
@@ -41,6 +43,7 @@ pub fn long(wave: u32) -> Score {
         rate: 48_000,
         tempo: 120.0,
         steps_per_beat: 4,
+        points: Vec::new(),
         swing: 0.5,
         humanize: 0.25,
         wave,
@@ -52,5 +55,54 @@ pub fn long(wave: u32) -> Score {
         out: LONG,
         note_buf: LONG,
         string: 9600,
+    }
+}
+
+/// 64 points, each a fraction of a beat after the one before, from one tempo evenly to another.
+pub fn ritardando(num: i64, den: u32, from: f32, to: f32) -> Vec<u32> {
+    let points: Vec<Point> = (0..64)
+        .map(|i| Point {
+            num: num * i,
+            den,
+            bpm: from + (to - from) * i as f32 / 63.0,
+        })
+        .collect();
+    words_of(&points)
+}
+
+/// The same under a map from 132 beats a minute down, with a point at each 7/3 of a beat, of which twenty
+/// lie within the frames. Step 28 stands on a point, and the last note is cut.
+pub fn long_mapped(wave: u32) -> Score {
+    Score {
+        points: ritardando(7, 3, 132.0, 66.0),
+        words: [
+            note(0, 1_048_575, 110.0, 0.8),
+            curve(1, 40, 5, 0.5),
+            curve(28, 3, 100, 0.7),
+            note(100, 4, 1500.0, 1.0),
+            note(139, 0, 300.0, 1.0),
+            note(175, 8, 300.0, 1.0),
+        ]
+        .concat(),
+        ..long(wave)
+    }
+}
+
+/// As long as the domain goes, with the most beats: a beat is 480 frames at first, and the last point
+/// stands at beat 34,671. Notes on points, across one, past the last, and past the frames.
+pub fn longest_mapped() -> Score {
+    let [_, straight] = longest();
+    let steps = [
+        0, 16_510, 17_051, 33_020, 34_120, 34_671, 34_700, 34_777, 34_800,
+    ];
+    let words = steps.map(|step| note(step, 1 + step % 7, 0.0, 1.0));
+    Score {
+        rate: 8000,
+        steps_per_beat: 1,
+        points: ritardando(1651, 3, 1000.0, 990.0),
+        swing: 0.5,
+        humanize: 0.5,
+        words: words.concat(),
+        ..straight
     }
 }

@@ -11,6 +11,7 @@ mod cases;
 mod dsp;
 mod engine;
 mod exponential;
+mod grid;
 mod groove_cases;
 mod groove_vectors;
 mod growth;
@@ -23,6 +24,11 @@ mod kernels;
 mod lent;
 mod libm;
 mod long_scores;
+mod mapped_bench;
+mod mapped_calls;
+mod mapped_cases;
+mod mapped_kinds;
+mod mapped_random;
 mod note_calls;
 mod progress;
 mod random;
@@ -34,6 +40,7 @@ mod score_cases;
 mod score_kinds;
 mod score_random;
 mod score_vectors;
+mod tempo_points;
 mod text;
 mod text_cases;
 mod text_damage;
@@ -56,6 +63,7 @@ const USAGE: &str =
     "usage: compare all [SCALE [SEED]] every comparison, one case in SCALE; a SEED for other random cases
        compare helpers [SCALE]   every f32 and 10^9 f64 patterns; one in SCALE of them
        compare bench             nanoseconds a sample of each wave by note and by score, library and original
+       compare mapped-bench      the same of scores with tempo maps, and what a map costs a note; a part of bench
        compare growth            how the time grows with frames and with notes
        compare helper-bench      nanoseconds a call of the float helpers, library and Rust
        compare vectors           writes the replay files of crates/float_vectors
@@ -67,6 +75,7 @@ const USAGE: &str =
        compare voices [COUNT]    COUNT notes of each wave, 10^5 by default
        compare notes [COUNT]     COUNT note calls of every outcome, 10^6 by default
        compare scores [COUNT]    COUNT score calls in lists, 10^6 by default
+       compare mapped-scores [COUNT]  the same with tempo maps
        compare texts [COUNT]     COUNT text scores and damaged ones, 10^6 by default
        compare boards [COUNT]    COUNT operations on a board in lists, 10^7 by default
        compare board-vectors     writes the replay files of crates/board_vectors
@@ -88,6 +97,7 @@ fn main() -> ExitCode {
         ["helpers"] => status(helpers::run(1)),
         ["helpers", scale] => scaled(scale, |scale| status(helpers::run(scale))),
         ["bench"] => done(bench::run()),
+        ["mapped-bench"] => done(mapped_bench::run()),
         ["growth"] => done(growth::run()),
         ["helper-bench"] => done(helper_bench::run()),
         ["vectors"] => written(vectors::run()),
@@ -101,6 +111,8 @@ fn main() -> ExitCode {
         ["notes", count] => counted(count, note_calls::run),
         ["scores"] => status(score_calls::run(score_calls::COUNT)),
         ["scores", count] => counted(count, score_calls::run),
+        ["mapped-scores"] => status(mapped_calls::run(mapped_calls::COUNT)),
+        ["mapped-scores", count] => counted(count, mapped_calls::run),
         ["texts"] => status(texts::run(texts::COUNT)),
         ["texts", count] => counted(count, texts::run),
         ["boards"] => status(boards::run(boards::COUNT)),

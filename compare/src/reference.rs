@@ -1,19 +1,21 @@
-//! What document 01 asks of a note call and of a list of score calls, with the original's voices,
-//! groove and mix for the sound. Nothing here comes from the library. Words in quotes are 01's.
+//! What document 01, and 02 of tempo maps, ask of a note call and of a list of score calls, with the
+//! original's voices, groove and mix for the sound. Nothing here comes from the library. Words in quotes
+//! are theirs.
 
+use crate::grid::{bare, Grid};
 use crate::random::{draw, state_at};
+use crate::tempo_points::{are_outside, are_unordered, points_of};
 use crate::waves::{envelope, voice_of, wave_at};
-use std::ops::Range;
-use tono::dsl::{SeqNote, SeqWave, Value};
+use tono::dsl::{SeqNote, SeqWave, TempoPoint, Value};
 use tono::dsp::Rng;
-use tono::render::seq::shim::{groove, note_signal, render, Voice};
+use tono::render::seq::shim::{note_signal, render, Voice};
 
 /// "n at most 16,777,216; 0 is accepted."
 const MOST_FRAMES: usize = 16_777_216;
 /// "string buffer shorter than 9,600 values"
 const STRING: usize = 9600;
-/// C's answer where no call is made: there are not 22 knobs, or not 5 numbers of an envelope, or the
-/// wave is not one of the 17.
+/// C's answer where no call is made: there are not 22 knobs, or not 5 numbers of an envelope, or not
+/// four words for each tempo point, or the wave is not one of the 17.
 pub const NO_CALL: u32 = u32::MAX;
 
 /// What a call comes to. "A refusal returns its number and 0 draws and changes nothing."
@@ -158,6 +160,7 @@ pub struct ScoreCall<'a> {
     pub rate: u32,
     pub tempo: f32,
     pub steps_per_beat: u32,
+    pub points: &'a [u32],
     pub swing: f32,
     pub humanize: f32,
     pub wave: u32,
@@ -187,33 +190,40 @@ impl Tally {
     /// "Accepted: it reports D .. d + D, becomes the new d."
     pub fn score_call(&mut self, call: &ScoreCall) -> Called {
         let voice = score_voice(call)?;
-        if let Some(number) = score_refusal(call).or_else(|| notes_refusal(call)) {
+        let grid = Grid::of(call);
+        if let Some(number) = score_refusal(call).or_else(|| notes_refusal(call, &grid)) {
             return Some(Outcome::Refused(number));
         }
-        let notes: Vec<SeqNote> = call.words.chunks_exact(5).map(|w| call.note(w)).collect();
+        let notes = call.words.chunks_exact(5);
+        let notes: Vec<SeqNote> = notes.map(|w| call.note(&grid, w)).collect();
         // "22 applies exactly when none before it does and d + D passes 2^64 − 1"
-        let draws: u128 = notes.iter().map(|note| call.draws(&voice, note)).sum();
+        let draws = notes.iter().map(|note| call.draws(voice.wave, &grid, note));
+        let draws: u128 = draws.sum();
         let Ok(after) = u64::try_from(self.draw as u128 + draws) else {
             return Some(Outcome::Refused(22));
         };
-        let frames = score_frames(call, &voice, &notes, self.state(), draws as u64);
-        self.draw = after;
         let draws = draws as u64;
+        let frames = score_frames(call, &voice, &grid.map, &notes, self.state(), draws);
+        self.draw = after;
         Some(Outcome::Accepted { draws, frames })
     }
 }
 
 /// "1 rate; 2 n; 3 tempo; 4 steps per beat; 5 swing or humanize: outside the domain"; "6 a knob of any
 /// of the four sets .. the duty or an envelope number isn't sized"; "20 and 21 after 6"; "7 note words
-/// not a multiple of five"; "11 a lane value, used or not, isn't sized". A NaN is in no range.
+/// not a multiple of five"; "11 a lane value, used or not, isn't sized"; 31 and 32 "both after 4 and in
+/// that order". A NaN is in no range.
 fn score_refusal(call: &ScoreCall) -> Option<u32> {
     let part = 0.0..=1.0;
+    let points = points_of(call.points);
     let voiced = all_sized(call.knobs) && is_sized(call.duty) && all_sized(call.env);
     first(&[
         (1, !is_rate(call.rate)),
         (2, call.out > MOST_FRAMES),
         (3, !(1.0..=1000.0).contains(&call.tempo)),
         (4, !(1..=64).contains(&call.steps_per_beat)),
+        (31, are_outside(&points)),
+        (32, are_unordered(&points)),
         (
             5,
             !part.contains(&call.swing) || !part.contains(&call.humanize),
@@ -227,18 +237,18 @@ fn score_refusal(call: &ScoreCall) -> Option<u32> {
 }
 
 /// "then note by note: 8 kind above 1; 9 step or len; 10 gain or constant pitch not sized; 12 offset +
-/// length (module 4's, for skipped notes too) passes the lane's end"
-fn notes_refusal(call: &ScoreCall) -> Option<u32> {
+/// length (module 4's, for skipped notes too) passes the lane's end"; a mapped note has its mapped length
+fn notes_refusal(call: &ScoreCall, grid: &Grid) -> Option<u32> {
     let mut notes = call.words.chunks_exact(5);
     notes.find_map(|w| {
         let curve = w[2] == 1;
         let pitched = curve || is_sized(f32::from_bits(w[3]));
-        let end = w[3] as usize + call.length(w[1]);
+        let passes = || w[3] as usize + grid.length(w) > call.lane.len();
         first(&[
             (8, w[2] > 1),
             (9, w[0].max(w[1]) > 1_048_575),
             (10, !is_sized(f32::from_bits(w[4])) || !pitched),
-            (12, curve && end > call.lane.len()),
+            (12, curve && passes()),
         ])
     })
 }
@@ -247,59 +257,31 @@ fn notes_refusal(call: &ScoreCall) -> Option<u32> {
 fn score_voice(call: &ScoreCall) -> Option<Voice> {
     let knobs = call.knobs.try_into().ok()?;
     let env = <[f32; 5]>::try_from(call.env).ok()?;
+    let wave = wave_at(call.wave).filter(|_| call.points.len() % 4 == 0)?;
     Some(Voice {
         duty: call.duty,
         swing: call.swing,
         humanize: call.humanize,
         env: envelope(env),
-        ..voice_of(wave_at(call.wave)?, knobs)
+        ..voice_of(wave, knobs)
     })
 }
 
 impl ScoreCall<'_> {
-    /// "Samples per step = rate × 60 / tempo / steps per beat, in f32."
-    pub fn samples_per_step(&self) -> f32 {
-        self.rate as f32 * 60.0 / self.tempo / self.steps_per_beat as f32
-    }
-
-    /// "Length = (len × samples per step, at most n) cut, at least 1."
-    pub fn length(&self, len: u32) -> usize {
-        let frames = len as f32 * self.samples_per_step();
-        (frames.min(self.out as f32) as usize).max(1)
-    }
-
     /// A note of five words. "a curve at frame i is the lane's value at offset + i"
-    fn note(&self, w: &[u32]) -> SeqNote {
-        let offset = w[3] as usize;
-        let pitch = match w[2] {
-            0 => Value::Const(f32::from_bits(w[3])),
-            _ => Value::Modulated(self.lane[offset..offset + self.length(w[1])].to_vec()),
-        };
-        SeqNote {
-            step: w[0],
-            len: w[1],
-            pitch,
-            gain: f32::from_bits(w[4]),
+    fn note(&self, grid: &Grid, w: &[u32]) -> SeqNote {
+        let (offset, bare) = (w[3] as usize, bare(w));
+        match w[2] {
+            0 => bare,
+            _ => SeqNote {
+                pitch: Value::Modulated(self.lane[offset..offset + grid.length(w)].to_vec()),
+                ..bare
+            },
         }
     }
 
-    /// The frames that a note sounds in. "A note with start ≥ n is skipped, any other is sounded";
-    /// "Sounded frames = min(n − start, length)".
-    fn place(&self, voice: &Voice, note: &SeqNote) -> Option<Range<usize>> {
-        let (start, _) = groove(voice, note, self.samples_per_step());
-        let left = self.out.checked_sub(start).filter(|&left| left > 0)?;
-        Some(start..start + left.min(self.length(note.len)))
-    }
-
-    /// The same of each note of an accepted call.
-    pub fn places(&self) -> Vec<Option<Range<usize>>> {
-        let voice = score_voice(self).expect("a call was made");
-        let notes = self.words.chunks_exact(5);
-        notes.map(|w| self.place(&voice, &self.note(w))).collect()
-    }
-
-    fn draws(&self, voice: &Voice, note: &SeqNote) -> u128 {
-        let Some(frames) = self.place(voice, note) else {
+    fn draws(&self, wave: SeqWave, grid: &Grid, note: &SeqNote) -> u128 {
+        let Some(frames) = grid.place(note) else {
             return 0;
         };
         let first_pitch = match &note.pitch {
@@ -307,7 +289,7 @@ impl ScoreCall<'_> {
             Value::Modulated(curve) => curve[0],
             Value::Note(_) => panic!("no note names"),
         };
-        draws_of(voice.wave, self.rate, first_pitch, frames.len()) as u128
+        draws_of(wave, self.rate, first_pitch, frames.len()) as u128
     }
 }
 
@@ -315,13 +297,15 @@ impl ScoreCall<'_> {
 fn score_frames(
     call: &ScoreCall,
     voice: &Voice,
+    map: &[TempoPoint],
     notes: &[SeqNote],
     state: u64,
     draws: u64,
 ) -> Vec<f32> {
     let mut rng = Rng::new(state);
     let (tempo, steps) = (call.tempo, call.steps_per_beat);
-    let frames = render(voice, tempo, steps, notes, call.out, call.rate, &mut rng);
+    let (n, rate) = (call.out, call.rate);
+    let frames = render(voice, map, tempo, steps, notes, n, rate, &mut rng);
     moved(rng, state, draws);
     frames
 }

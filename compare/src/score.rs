@@ -7,6 +7,8 @@ pub struct Score {
     pub rate: u32,
     pub tempo: f32,
     pub steps_per_beat: u32,
+    /// Four words a tempo point.
+    pub points: Vec<u32>,
     pub swing: f32,
     pub humanize: f32,
     pub wave: u32,
@@ -26,6 +28,7 @@ impl Score {
             rate: self.rate,
             tempo: self.tempo,
             steps_per_beat: self.steps_per_beat,
+            points: &self.points,
             swing: self.swing,
             humanize: self.humanize,
             wave: self.wave,

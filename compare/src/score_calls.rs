@@ -14,6 +14,15 @@ use crate::waves::WAVES;
 /// How many calls are tried where no number is given.
 pub const COUNT: u64 = 1_000_000;
 
+/// What a run of lists tries: how a call is made, the longer ones that stand beside, each list on a
+/// session of its own, and what is worth a line of a call with its number.
+pub struct Lists {
+    pub what: &'static str,
+    pub random: fn(&mut Source) -> Score,
+    pub long: fn() -> Vec<(String, Vec<Score>)>,
+    pub mark: fn(&Score, u32, &mut Tried),
+}
+
 /// The session as the library holds it, beside the tally.
 struct Held {
     tally: Tally,
@@ -58,6 +67,7 @@ struct Buffers {
     knobs: Lent<f32>,
     env: Lent<f32>,
     words: Lent<u32>,
+    points: Lent<u32>,
     lane: Lent<f32>,
     out: Lent<f32>,
     note_buf: Lent<f32>,
@@ -70,6 +80,7 @@ impl Buffers {
             knobs: Lent::of(&score.knobs),
             env: Lent::of(&score.env),
             words: Lent::of(&score.words),
+            points: Lent::of(&score.points),
             lane: Lent::of(&score.lane),
             out: Lent::any(score.out),
             note_buf: Lent::any(score.note_buf),
@@ -85,6 +96,7 @@ impl Buffers {
             rate: score.rate,
             tempo: score.tempo,
             steps_per_beat: score.steps_per_beat,
+            points: self.points.part(),
             swing: score.swing,
             humanize: score.humanize,
             wave: score.wave,
@@ -109,6 +121,7 @@ impl Buffers {
             ("knobs", !self.knobs.stays()),
             ("envelope", !self.env.stays()),
             ("notes", !self.words.stays()),
+            ("points", !self.points.stays()),
             ("lane", !self.lane.stays()),
         ])
     }
@@ -131,9 +144,9 @@ fn near_the_end(scores: &[Score], s: &mut Source) -> u64 {
 }
 
 /// The list of this number: its session and its calls, one after the other, up to the first fault.
-fn try_list(list: u64, calls: u64, tried: &mut Tried) {
+fn try_list(lists: &Lists, list: u64, calls: u64, tried: &mut Tried) {
     let mut s = Source::new(list);
-    let scores: Vec<Score> = (0..calls).map(|_| Score::random(&mut s)).collect();
+    let scores: Vec<Score> = (0..calls).map(|_| (lists.random)(&mut s)).collect();
     let draw = match s.below(4) {
         0 => 0,
         1 => s.number(),
@@ -154,11 +167,11 @@ fn try_list(list: u64, calls: u64, tried: &mut Tried) {
         if number == 0 && held.tally.draw == u64::MAX {
             tried.mark("accepted and at draw 2^64 - 1 after it");
         }
-        mark_kinds(score, number, tried);
+        (lists.mark)(score, number, tried);
     }
 }
 
-fn mark_kinds(score: &Score, number: u32, tried: &mut Tried) {
+pub fn mark_kinds(score: &Score, number: u32, tried: &mut Tried) {
     if number == 0 {
         for (kind, is) in score.kinds() {
             tried.mark_wave(score.wave, kind, is);
@@ -185,13 +198,11 @@ fn calls_before(list: u64) -> u64 {
     36 * rounds + rest * (rest + 1) / 2
 }
 
-fn share(first: u64, count: u64, progress: &Progress) -> Tried {
+fn share(lists: &Lists, first: u64, count: u64, progress: &Progress) -> Tried {
     let mut tried = Tried::default();
-    if first == 0 {
-        try_long("the longest score", &longest(), &mut tried);
-    }
-    for (place, name, _) in WAVES.iter().skip(first as usize).step_by(threads()) {
-        try_long(&format!("a long {name}"), &[long(*place)], &mut tried);
+    let long = (lists.long)();
+    for (name, scores) in long.iter().skip(first as usize).step_by(threads()) {
+        try_long(name, scores, &mut tried);
     }
     for list in (first..).step_by(threads()) {
         let before = calls_before(list);
@@ -199,15 +210,34 @@ fn share(first: u64, count: u64, progress: &Progress) -> Tried {
             break;
         }
         let calls = (1 + list % 8).min(count - before);
-        try_list(list, calls, &mut tried);
+        try_list(lists, list, calls, &mut tried);
         progress.add(calls);
     }
     tried
 }
 
+/// Compares `count` calls of these lists.
+pub fn run_lists(lists: &Lists, count: u64) -> Count {
+    tried::run(lists.what, count, |thread, progress| {
+        share(lists, thread, count, progress)
+    })
+}
+
+/// The longest scores, and a long one of each wave.
+fn long_ones() -> Vec<(String, Vec<Score>)> {
+    let mut all = vec![("the longest score".to_string(), longest().to_vec())];
+    all.extend(WAVES.map(|(place, name, _)| (format!("a long {name}"), vec![long(place)])));
+    all
+}
+
+const STRAIGHT: Lists = Lists {
+    what: "score calls",
+    random: Score::random,
+    long: long_ones,
+    mark: mark_kinds,
+};
+
 /// Compares `count` calls.
 pub fn run(count: u64) -> Count {
-    tried::run("score calls", count, |thread, progress| {
-        share(thread, count, progress)
-    })
+    run_lists(&STRAIGHT, count)
 }

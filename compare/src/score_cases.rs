@@ -5,9 +5,9 @@ use crate::voice_vectors::USUAL;
 
 /// The next number above 65,536, and above 1,000, and above 1, and the one below 1.
 const ABOVE_65536: f32 = f32::from_bits(0x4780_0001);
-const ABOVE_1000: f32 = f32::from_bits(0x447a_0001);
-const ABOVE_1: f32 = f32::from_bits(0x3f80_0001);
-const BELOW_1: f32 = f32::from_bits(0x3f7f_ffff);
+pub const ABOVE_1000: f32 = f32::from_bits(0x447a_0001);
+pub const ABOVE_1: f32 = f32::from_bits(0x3f80_0001);
+pub const BELOW_1: f32 = f32::from_bits(0x3f7f_ffff);
 const TINY: f32 = f32::from_bits(1);
 
 /// Both ends of what is sized, and what isn't.
@@ -29,11 +29,12 @@ pub fn curve(step: u32, len: u32, offset: u32, gain: f32) -> [u32; 5] {
 }
 
 /// 7.5 frames a step; a number that starts at once, and a curve of 15 frames, swung.
-fn usual() -> Score {
+pub fn usual() -> Score {
     Score {
         rate: 8000,
         tempo: 1000.0,
         steps_per_beat: 64,
+        points: Vec::new(),
         swing: 0.5,
         humanize: 0.25,
         wave: 0,

@@ -1,5 +1,6 @@
 //! What a score has in it, so that a run can say how often each wave was tried with each of these.
 
+use crate::grid::{bare, Grid};
 use crate::reference::all_sized;
 use crate::score::Score;
 use crate::waves::own_knobs;
@@ -27,14 +28,13 @@ impl Sounded<'_> {
 
 impl Score {
     fn sounded(&self) -> Vec<Sounded<'_>> {
-        let call = self.call();
-        let notes = self.words.chunks_exact(5).zip(call.places());
-        let sounds = notes.filter_map(|(words, place)| {
-            let length = call.length(words[1]);
-            place.map(|frames| Sounded {
+        let grid = Grid::of(&self.call());
+        let notes = self.words.chunks_exact(5);
+        let sounds = notes.filter_map(|words| {
+            grid.place(&bare(words)).map(|frames| Sounded {
                 words,
                 frames,
-                length,
+                length: grid.length(words),
             })
         });
         sounds.collect()

@@ -1,5 +1,6 @@
 //! Scores to try: short ones of any kind, and faults in them.
 
+use crate::grid::Grid;
 use crate::random::Source;
 use crate::score::Score;
 use crate::score_cases::note;
@@ -8,7 +9,7 @@ use crate::waves::WAVES;
 /// The next number above 1.
 const ABOVE_1: f32 = 1.0 + f32::EPSILON;
 /// One score in so many has an output past the limit of the frames: 64 MiB, which take time to check.
-const LONG: u64 = 20_000;
+pub const LONG: u64 = 20_000;
 
 impl Score {
     /// A score of the domain, but that a curve may reach past its lane, and then up to three faults.
@@ -54,6 +55,7 @@ impl Score {
             rate,
             tempo,
             steps_per_beat,
+            points: Vec::new(),
             swing: part(s),
             humanize: part(s),
             wave: match s.below(2) {
@@ -74,7 +76,7 @@ impl Score {
     /// Step and len of a note: mostly at a step that starts within the frames or just after them, often
     /// at one that has a note.
     fn span(&self, s: &mut Source) -> [u32; 2] {
-        let within = self.out as f32 / self.call().samples_per_step();
+        let within = self.out as f32 / Grid::of(&self.call()).samples_per_step();
         let step = match s.below(5) {
             0 if !self.words.is_empty() => self.words[self.words.len() - 5],
             _ => steps(s, within as u64 + 2),
@@ -83,11 +85,17 @@ impl Score {
     }
 
     fn add_note(&mut self, s: &mut Source) {
-        let [step, len] = self.span(s);
-        let fits = self.call().length(len) <= self.lane.len();
+        let span = self.span(s);
+        self.add_pitched(&Grid::of(&self.call()), span, s);
+    }
+
+    /// A note of this step and len, whose pitch is a number or a curve.
+    pub fn add_pitched(&mut self, grid: &Grid, [step, len]: [u32; 2], s: &mut Source) {
+        let length = grid.length(&[step, len, 1, 0, 0]);
+        let fits = length <= self.lane.len();
         let curve = s.below(if fits { 2 } else { 40 }) == 0;
         let pitch = match curve {
-            true => self.offset(len, s),
+            true => self.offset(length, s),
             false => s.sized(20.0, 5000.0).to_bits(),
         };
         let gain = s.sized(0.0, 1.0).to_bits();
@@ -103,8 +111,8 @@ impl Score {
 
     /// Where a curve starts: mostly so that it fits its lane, and often so that it just does or just
     /// doesn't.
-    fn offset(&self, len: u32, s: &mut Source) -> u32 {
-        let room = self.lane.len().saturating_sub(self.call().length(len)) as u32;
+    fn offset(&self, length: usize, s: &mut Source) -> u32 {
+        let room = self.lane.len().saturating_sub(length) as u32;
         match s.below(30) {
             0 => room + 1,
             1..10 => room,
@@ -113,7 +121,7 @@ impl Score {
     }
 
     /// One fault of any kind.
-    fn spoil(&mut self, s: &mut Source) {
+    pub fn spoil(&mut self, s: &mut Source) {
         match s.below(4) {
             0 => self.spoil_numbers(s),
             1 => self.spoil_voice(s),
@@ -190,7 +198,7 @@ fn part(s: &mut Source) -> f32 {
 }
 
 /// A step or a length in steps: mostly below `few`, otherwise up to the domain's end.
-fn steps(s: &mut Source, few: u64) -> u32 {
+pub fn steps(s: &mut Source, few: u64) -> u32 {
     match s.below(10) {
         0 => 1_048_575,
         1 => s.below(1_048_576) as u32,

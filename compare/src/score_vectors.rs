@@ -1,6 +1,7 @@
 //! The replay files of crates/score_vectors. A line `open` gives a seed and a draw count, from which
 //! the session goes on; a line `score` is a call on it.
 
+use crate::mapped_cases;
 use crate::reference::{self, Tally};
 use crate::score::Score;
 use crate::score_cases::{drawing, edges, list};
@@ -21,10 +22,13 @@ struct Replay {
     stdout: String,
 }
 
+fn plain(words: &[u32]) -> String {
+    words.iter().map(|w| format!(" {w:x}")).collect()
+}
+
 fn line(score: &Score) -> String {
-    let words: String = score.words.iter().map(|w| format!(" {w:x}")).collect();
     format!(
-        "score {:x} {:08x} {:x} {:08x} {:08x} {:x} {:08x} {:x} {:x} {:x} {:x} {:x} {:x} {:x}{}{}{words}{}",
+        "score {:x} {:08x} {:x} {:08x} {:08x} {:x} {:08x} {:x} {:x} {:x} {:x} {:x} {:x} {:x} {:x}{}{}{}{}{}",
         score.rate,
         score.tempo.to_bits(),
         score.steps_per_beat,
@@ -39,9 +43,12 @@ fn line(score: &Score) -> String {
         score.env.len(),
         score.words.len(),
         score.lane.len(),
+        score.points.len(),
         hex(&score.knobs),
         hex(&score.env),
-        hex(&score.lane)
+        plain(&score.words),
+        hex(&score.lane),
+        plain(&score.points)
     )
 }
 
@@ -101,6 +108,14 @@ pub fn run() -> io::Result<()> {
     replay.last_draws();
     let mut tally = replay.open(0xfeed_beef_0000_0001, 1000);
     for score in list() {
+        replay.score(&mut tally, &score);
+    }
+    for (i, score) in mapped_cases::edges().iter().enumerate() {
+        let mut tally = replay.open(i as u64, 5 * i as u64);
+        replay.score(&mut tally, score);
+    }
+    let mut tally = replay.open(0xfeed_beef_0000_0002, 2000);
+    for score in mapped_cases::list() {
         replay.score(&mut tally, &score);
     }
     let folder = Path::new(FOLDER);

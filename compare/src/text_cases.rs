@@ -31,6 +31,7 @@ fn usual(wave: u32) -> Score {
         rate: 8000,
         tempo: 1000.0,
         steps_per_beat: 64,
+        points: Vec::new(),
         swing: 0.5,
         humanize: 0.25,
         wave,

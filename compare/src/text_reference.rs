@@ -116,6 +116,7 @@ fn read(text: &[u8]) -> Option<TextScore> {
             rate: decimal(rate)?,
             tempo: float(tempo)?,
             steps_per_beat: decimal(steps_per_beat)?,
+            points: Vec::new(),
             swing: float(swing)?,
             humanize: float(humanize)?,
             wave: voice.wave,

@@ -54,6 +54,15 @@ impl Replay {
         }
     }
 
+    fn pair_64(&mut self, name: &str, rust: impl Fn(f64, f64) -> f64) {
+        for a in ORDER_64 {
+            for b in ORDER_64 {
+                let answer = rust(f64::from_bits(a), f64::from_bits(b));
+                self.push(format!("{name} {a:016x} {b:016x}"), double(answer));
+            }
+        }
+    }
+
     fn clamp(&mut self) {
         for x in ORDER {
             for (low, high) in RANGES {
@@ -101,7 +110,7 @@ fn double(x: f64) -> String {
     format!("{:016x}", if is_nan { 0x7ff8_0000_0000_0000 } else { bits })
 }
 
-fn max(a: f32, b: f32) -> f32 {
+fn max<X: PartialOrd>(a: X, b: X) -> X {
     if a > b {
         a
     } else {
@@ -148,8 +157,10 @@ pub fn run() -> io::Result<()> {
     replay.double("narrow", &[&BORDERS_64, &NARROW], |x| single(x as f32));
     let integers: [&[u64]; 3] = [&BORDERS_64, &WHOLE_64, &INTEGER_ENDS_64];
     replay.double("i64", &integers, |x| format!("{:016x}", x as i64));
+    replay.double("usize64", &integers, |x| format!("{:016x}", x as usize));
     replay.pair("max", max);
     replay.pair("min", min);
+    replay.pair_64("max64", max);
     replay.clamp();
     replay.write(FOLDER)
 }

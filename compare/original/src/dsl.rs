@@ -1,5 +1,7 @@
 //! Stand-ins for the types of dsl/mod.rs and dsl/node.rs: the fields that the voices read, in the
-//! source's order.
+//! source's order. The tempo map is the source's own.
+
+include!(concat!(env!("OUT_DIR"), "/tempo.rs"));
 
 #[derive(Clone, Copy, PartialEq, Debug)]
 pub enum SeqWave {
@@ -106,8 +108,6 @@ pub struct SeqNote {
     pub gain: f32,
 }
 
-pub struct TempoPoint;
-
 pub enum Node {
     Seq {
         bpm: f32,
@@ -127,14 +127,6 @@ pub enum Node {
         notes: Vec<SeqNote>,
     },
     Other,
-}
-
-pub fn tempo_map_seconds_at(_: &[TempoPoint], _: f64) -> f64 {
-    panic!("no tempo maps")
-}
-
-pub fn tempo_map_bpm_at(_: &[TempoPoint], _: f64) -> f64 {
-    panic!("no tempo maps")
 }
 
 /// Read by the delays of dsp.rs, which no voice uses.

@@ -3,4 +3,11 @@
 
 pub mod dsl;
 
+/// Exact musical time.
+pub mod units {
+    include!(concat!(env!("OUT_DIR"), "/units.rs"));
+
+    impl Eq for Beat {}
+}
+
 include!(concat!(env!("OUT_DIR"), "/files.rs"));

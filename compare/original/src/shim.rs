@@ -15,7 +15,8 @@ pub struct Voice {
     pub env: Adsr,
 }
 
-fn with_voice<R>(voice: &Voice, act: impl FnOnce(&SeqVoice) -> R) -> R {
+/// With no points the tempo is straight.
+fn with_voice<R>(voice: &Voice, points: &[TempoPoint], act: impl FnOnce(&SeqVoice) -> R) -> R {
     let duty = Value::Const(voice.duty);
     act(&SeqVoice {
         wave: voice.wave,
@@ -31,7 +32,7 @@ fn with_voice<R>(voice: &Voice, act: impl FnOnce(&SeqVoice) -> R) -> R {
         swing: voice.swing,
         humanize: voice.humanize,
         env: &voice.env,
-        tempo_map: &[],
+        tempo_map: points,
     })
 }
 
@@ -50,12 +51,13 @@ pub fn note_signal(
         pitch: Value::Const(0.0),
         gain,
     };
-    with_voice(voice, |v| seq_note_signal(v, &note, f, d, sr, rng))
+    with_voice(voice, &[], |v| seq_note_signal(v, &note, f, d, sr, rng))
 }
 
-/// A whole score.
+/// A whole score: by `render_seq_mapped` where it has points.
 pub fn render(
     voice: &Voice,
+    points: &[TempoPoint],
     bpm: f32,
     steps_per_beat: u32,
     notes: &[SeqNote],
@@ -63,14 +65,28 @@ pub fn render(
     sr: u32,
     rng: &mut Rng,
 ) -> Vec<f32> {
-    with_voice(voice, |v| {
+    with_voice(voice, points, |v| {
         render_seq(bpm, steps_per_beat, v, notes, n, sr, rng)
     })
 }
 
 /// A note's start and grooved gain.
 pub fn groove(voice: &Voice, note: &SeqNote, step_dur: f32) -> (usize, f32) {
-    with_voice(voice, |v| groove_note(note, v, step_dur))
+    with_voice(voice, &[], |v| groove_note(note, v, step_dur))
+}
+
+/// A note's start, end and grooved gain under a tempo map.
+pub fn groove_mapped(
+    voice: &Voice,
+    points: &[TempoPoint],
+    note: &SeqNote,
+    steps_per_beat: u32,
+    sr: u32,
+) -> (usize, usize, f32) {
+    let map = TempoMap { points };
+    with_voice(voice, points, |v| {
+        groove_note_mapped(note, v, &map, steps_per_beat, sr)
+    })
 }
 
 /// Humanize's timing and gain.

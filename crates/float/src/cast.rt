@@ -16,6 +16,19 @@ pub fn f32_to_usize(x: f32) -> usize
     0
 }
 
+// A NaN fails the first test.
+pub fn f64_to_usize(x: f64) -> usize
+    ensures { λ r. ⌜ r ≡ toUnsigned 64 x ⌝ }
+{
+    if x > -1.0 {
+        if x < 18446744073709551616.0 {
+            return std::num::truncating_f64_to_u64(x) as usize;
+        }
+        return usize::MAX;
+    }
+    0
+}
+
 // A NaN fails the first and the last test.
 pub fn f64_to_i64(x: f64) -> i64
     ensures { λ r. ⌜ r ≡ toSigned 63 x ⌝ }

@@ -1,7 +1,7 @@
 // Comparisons that pick one of their arguments, and the absolute value.
 ghost use mathlib.Core.Path.{_≡_};
 ghost use Rattle.ieee.specs.Sign.{absOf};
-ghost use Rattle.ieee.specs.Order.{maxOf, minOf, clampOf};
+ghost use Rattle.ieee.specs.Order.{maxOf, minOf, clampOf, withinOf};
 
 // a if it is above b, else b: of two zeros and at a NaN, b.
 pub fn max_f32(a: f32, b: f32) -> f32
@@ -28,6 +28,16 @@ pub fn clamp_f32(x: f32, low: f32, high: f32) -> f32
         return high;
     }
     x
+}
+
+// Whether x is from low to high; a NaN is not.
+pub fn within_f32(x: f32, low: f32, high: f32) -> bool
+    ensures { λ r. ⌜ r ≡ withinOf x low high ⌝ }
+{
+    if x >= low {
+        return x <= high;
+    }
+    false
 }
 
 // x with a plus sign, of a zero too.

@@ -31,6 +31,9 @@ fn answer_cast(line: &[u8]) {
     if vectors::is_named(line, b"usize") {
         vectors::print_u64(float::f32_to_usize(x) as u64);
     }
+    if vectors::is_named(line, b"usize64") {
+        vectors::print_u64(float::f64_to_usize(y) as u64);
+    }
     if vectors::is_named(line, b"i64") {
         vectors::print_i64(float::f64_to_i64(y));
     }
@@ -44,6 +47,12 @@ fn answer_order(line: &[u8]) {
     vectors::answer_f32(line, b"max", float::max_f32(a, b));
     vectors::answer_f32(line, b"min", float::min_f32(a, b));
     vectors::answer_f32(line, b"clamp", float::clamp_f32(a, b, c));
+    let x = vectors::f64_field(line, 1);
+    vectors::answer_f64(
+        line,
+        b"max64",
+        float::max_f64(x, vectors::f64_field(line, 2)),
+    );
 }
 
 // A name that no helper has gets no answer.

@@ -9,6 +9,7 @@ use Rattle.ieee.specs.Binary32.{_⊗_}
 use Rattle.ieee.specs.Order.{minOf}
 use Rattle.dsl.specs.Domain.{Frames}
 use Rattle.groove.specs.Length.{lengthOf, soundedOf}
+use Rattle.groove.specs.Mapped.{mappedLength}
 use Rattle.ieee.proofs.Bounds.{AtMost, value-at-most, lt-at-most}
 use Rattle.ieee.proofs.Cut.{cut-at-most}
 use Rattle.dsl.proofs.Exact.{frames-value}
@@ -34,6 +35,16 @@ module _ (len : ℕ) (dur : Float) (n : ℕ) where
       where
         under : (k : ℕ) → k ≤ n → max k 1 ≤ max n 1
         under k l = omega arith
+
+-- ---- its length under a tempo map
+module _ (start end n : ℕ) where
+  pub mapped-least : 1 ≤ mappedLength start end n
+  unfolding mappedLength
+  mapped-least = omega arith
+
+  pub mapped-most : mappedLength start end n ≤ max n 1
+  unfolding mappedLength
+  mapped-most = omega arith
 
 -- ---- the frames that sound
 module _ (n start length : ℕ) where

@@ -8,14 +8,14 @@ use lib.Dec.{T, lit<, lit≤}
 use lib.Ieee.{Float, binary32, le, round, ofBits}
 use lib.Ieee.Exact.{HasValue}
 use lib.Ieee.Back.{round-whole}
-use Rattle.ieee.specs.Numbers.{c1, f32}
+use Rattle.ieee.specs.Numbers.{c1, c1000, f32}
 use Rattle.ieee.specs.Binary32.{_⊗_, _⊘_}
 use Rattle.ieee.proofs.Value.{mul-value}
 use Rattle.ieee.proofs.Exactly.{round-value}
 use Rattle.ieee.proofs.Bounds.{le-at-most, le-at-least}
 use Rattle.ieee.proofs.Range.{Between, between, div-at-most, div-at-least}
 use Rattle.dsl.specs.Domain.{Rate}
-use Rattle.groove.specs.Number.{c60, c1000}
+use Rattle.groove.specs.Number.{c60}
 use Rattle.groove.specs.Timing.{stepDur}
 use Rattle.dsl.proofs.Exact.{f32-value, rate-value}
 

@@ -4,7 +4,3 @@ use lib.Ieee.{Float, binary32, ofBits}
 -- 60
 abbrev pub c60 : Float
 c60 = ofBits binary32 0x42700000
-
--- 1,000
-abbrev pub c1000 : Float
-c1000 = ofBits binary32 0x447a0000

@@ -24,8 +24,11 @@ unfoldable pub humanDelay : SeqNote → Float → Float → Float
 humanDelay note humanize dur = cond (lt c0 humanize) (humanize ⊗ c0·12 ⊗ dur ⊗ humanizeDraws note .timing) c0
 
 -- and the gain, which changes by at most 0.15 of itself
+abbrev pub wobbled : Float → Float → Float → Float
+wobbled gain humanize draw = gain ⊗ (c1 ⊕ humanize ⊗ c0·15 ⊗ draw)
+
 unfoldable pub humanGain : SeqNote → Float → Float
-humanGain note humanize = cond (lt c0 humanize) (note .gain ⊗ (c1 ⊕ humanize ⊗ c0·15 ⊗ humanizeDraws note .gain)) (note .gain)
+humanGain note humanize = cond (lt c0 humanize) (wobbled (note .gain) humanize (humanizeDraws note .gain)) (note .gain)
 
 -- "Start is cut, not rounded." Nothing starts before frame 0. The grooved gain is clamped to 0 and 1.
 unfoldable pub grooveOf : SeqNote → Float → Float → Float → Groove

@@ -1,7 +1,7 @@
 // Groove: where a note starts and how loud it is.
 ghost use mathlib.Core.Path.{_≡_};
 ghost use Rattle.dsl.specs.Domain.{numeric};
-ghost use Rattle.groove.specs.Timing.{stepDur, swingDelay, humanDelay, humanGain, grooveOf};
+ghost use Rattle.groove.specs.Timing.{stepDur, swingDelay, wobbled, humanDelay, humanGain, grooveOf};
 use crate::humanize::humanize_draws;
 use dsl::SeqNote;
 
@@ -29,6 +29,13 @@ fn swing_delay(step: u32, swing: f32, step_dur: f32) -> f32
     0.0
 }
 
+// A gain at humanize above 0, by the gain's draw.
+pub(crate) fn human_gain(gain: f32, humanize: f32, draw: f32) -> f32
+    ensures { λ r. ⌜ r ≡ wobbled gain humanize draw ⌝ }
+{
+    gain * (1.0 + humanize * HUMANIZE_VELOCITY_FRACTION * draw)
+}
+
 // What humanize makes of a note: its delay in samples, and its gain.
 struct Human {
     delay: f32,
@@ -44,7 +51,7 @@ fn humanized(note: SeqNote, humanize: f32, step_dur: f32) -> Human
         let draws = humanize_draws(note);
         return Human {
             delay: humanize * HUMANIZE_TIMING_STEP_FRACTION * step_dur * draws.timing,
-            gain: note.gain * (1.0 + humanize * HUMANIZE_VELOCITY_FRACTION * draws.gain),
+            gain: human_gain(note.gain, humanize, draws.gain),
         };
     }
     Human {

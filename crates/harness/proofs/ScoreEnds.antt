@@ -1,7 +1,9 @@
 -- The ways in which `h_score` ends. Assumes nothing.
-use Prim.Native.Nat.{ℕ}
+use Prim.Native.Nat.{ℕ, _%_}
 use mathlib.Core.Path.{_≡_, refl, sym, ap, _∙_}
 use mathlib.Core.List.{[]}
+use mathlib.Core.Bool.{Bool, true, false}
+use lib.Dec.{eqb}
 use lib.ListN.{length, drop}
 use Rattle.rng.specs.declared.Rng.{Rng}
 use Rattle.dsl.specs.declared.knobs.Adsr.{Adsr}
@@ -52,6 +54,9 @@ module _ (e : ScoreExport) where
   abbrev p : Places
   p = e .places
 
+  abbrev whole : Bool
+  whole = eqb (length (e .points) % 4) 0
+
   -- what the count and the note buffer hold
   abbrev Others : Called → Type 0
   Others x =
@@ -61,21 +66,24 @@ module _ (e : ScoreExport) where
   exported x q h o = record { places = rw q h; draw = rw q (o .0); buffer = rw q (o .1) }
 
   pub no-voice : voices.Nothing ≡ voiceAt (e .wave) (e .knobs) → Holds none p → Others none → ScoreExported e
-  no-voice v = exported none (ap (λ (x : VoiceAt). scoreCalledWith x (envAt (e .env)) e) (sym v))
+  no-voice v = exported none (ap (λ (x : VoiceAt). scoreCalledWith x (envAt (e .env)) whole e) (sym v))
 
   module _ (v : SeqVoice) (voice : Voice v ≡ voiceAt (e .wave) (e .knobs)) where
-    voiced : (m : EnvAt) → m ≡ envAt (e .env) → scoreCalled e ≡ scoreCalledWith (Voice v) m e
-    voiced m env = λ j. scoreCalledWith (sym voice j) (sym env j) e
+    voiced : (m : EnvAt) → m ≡ envAt (e .env) → scoreCalled e ≡ scoreCalledWith (Voice v) m whole e
+    voiced m env = λ j. scoreCalledWith (sym voice j) (sym env j) whole e
 
     pub no-envelope : envelopes.Nothing ≡ envAt (e .env) → Holds none p → Others none → ScoreExported e
     no-envelope m = exported none (voiced envelopes.Nothing m)
 
-    module _ (m : Adsr) (g : Rng) (a : Answer) (env : Env m ≡ envAt (e .env)) (state : g .0 ≡ p .state₀) (call : Scored (sessionOf e g) (callOf e v m a)) where
+    pub no-points : (m : Adsr) → Env m ≡ envAt (e .env) → whole ≡ false → Holds none p → Others none → ScoreExported e
+    no-points m env odd = exported none (voiced (Env m) env ∙ ap (λ (b : Bool). scoreCalledWith (Voice v) (Env m) b e) odd)
+
+    module _ (m : Adsr) (g : Rng) (a : Answer) (env : Env m ≡ envAt (e .env)) (all : whole ≡ true) (state : g .0 ≡ p .state₀) (call : Scored (sessionOf e g) (callOf e v m a)) where
       abbrev result : Result
       result = resultIn (sessionOf e g) (callOf e v m a)
 
       called : scoreCalled e ≡ made result
-      called = voiced (Env m) env ∙ ap (λ (s : ℕ). made (resultOf (scoreWith v m e) s (e .draw₀))) (sym state)
+      called = voiced (Env m) env ∙ ap (λ (b : Bool). scoreCalledWith (Voice v) (Env m) b e) all ∙ ap (λ (s : ℕ). made (resultOf (scoreWith v m e) s (e .draw₀))) (sym state)
 
       returned : Returned p result (a .outcome)
       returned = record { answer = call .answer; frames = call .frames; string = call .string }

@@ -1,7 +1,9 @@
 -- A score call from C: the score call's own definition, from numbers.
-use Prim.Native.Nat.{ℕ}
+use Prim.Native.Nat.{ℕ, _%_}
 use mathlib.Core.Path.{_≡_}
 use mathlib.Core.List.{List}
+use mathlib.Core.Bool.{Bool, cond}
+use lib.Dec.{eqb}
 use lib.ListN.{length, drop}
 use lib.Ieee.{Float}
 use Rattle.dsl.specs.declared.knobs.Adsr.{Adsr}
@@ -18,9 +20,10 @@ use Rattle.harness_knobs.specs.declared.EnvAt.{EnvAt}
 use Rattle.harness_knobs.specs.declared.EnvAt.the-variants.{Env}
 use Rattle.harness_knobs.specs.declared.EnvAt.the-variants as envelopes
 
--- What was handed in, and what was lent and answered. `draw` is the session's count, `buffer` the note buffer.
+-- What was handed in, and what was lent and answered. `points` has the words of the timing's tempo map. `draw` is the session's count, `buffer` the note buffer.
 pub record ScoreExport : Type 0 where
   pub timing : Timing
+  pub points : List ℕ
   pub wave : ℕ
   pub duty : Float
   pub knobs : List Float
@@ -38,13 +41,14 @@ abbrev pub scoreWith : SeqVoice → Adsr → ScoreExport → Score
 scoreWith v a e =
     handed (record { timing = e .timing; voice = v; duty = e .duty; env = a }) (e .notes) (e .lane) (e .places .out₀) (e .buffer₀) (e .places .string₀)
 
-abbrev pub scoreCalledWith : VoiceAt → EnvAt → ScoreExport → Called
-scoreCalledWith (Voice v) (Env a) e = made (resultOf (scoreWith v a e) (e .places .state₀) (e .draw₀))
-scoreCalledWith (Voice v) envelopes.Nothing e = none
-scoreCalledWith voices.Nothing env e = none
+-- no call is made without a voice, an envelope and whole points
+abbrev pub scoreCalledWith : VoiceAt → EnvAt → Bool → ScoreExport → Called
+scoreCalledWith (Voice v) (Env a) whole e = cond whole (made (resultOf (scoreWith v a e) (e .places .state₀) (e .draw₀))) none
+scoreCalledWith (Voice v) envelopes.Nothing whole e = none
+scoreCalledWith voices.Nothing env whole e = none
 
 abbrev pub scoreCalled : ScoreExport → Called
-scoreCalled e = scoreCalledWith (voiceAt (e .wave) (e .knobs)) (envAt (e .env)) e
+scoreCalled e = scoreCalledWith (voiceAt (e .wave) (e .knobs)) (envAt (e .env)) (eqb (length (e .points) % 4) 0) e
 
 -- The contract: all is as in the score call of that voice and envelope. The note buffer's first n values are free after an accepted call.
 pub record ScoreExported (e : ScoreExport) : Type 0 where

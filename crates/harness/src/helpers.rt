@@ -2,6 +2,7 @@
 ghost use mathlib.Core.Path.{_≡_};
 ghost use lib.Ieee.{binary32, toUnsigned, toSigned};
 ghost use Rattle.ieee.specs.Narrow.{narrowOf};
+ghost use Rattle.ieee.specs.Order.{maxOf};
 ghost use Rattle.ieee.specs.Root.{sqrtOf};
 ghost use Rattle.ieee.specs.Sign.{absOf};
 ghost use Rattle.ieee.specs.Whole.{floorOf, truncOf, roundOf, fractOf};
@@ -92,6 +93,22 @@ pub extern "C" fn h_usize(x: f32) -> usize
     ensures { λ r. ⌜ r ≡ toUnsigned 64 x ⌝ }
 {
     float::f32_to_usize(x)
+}
+
+// Rust's `as usize` of an f64.
+#[no_mangle]
+pub extern "C" fn h_usize64(x: f64) -> usize
+    ensures { λ r. ⌜ r ≡ toUnsigned 64 x ⌝ }
+{
+    float::f64_to_usize(x)
+}
+
+// 01's max, of an f64.
+#[no_mangle]
+pub extern "C" fn h_max64(a: f64, b: f64) -> f64
+    ensures { λ r. ⌜ r ≡ maxOf a b ⌝ }
+{
+    float::max_f64(a, b)
 }
 
 // Rust's `as i64`.

@@ -1,4 +1,5 @@
 // The score call from C.
+ghost use Rattle.harness_map.specs.Words.{mapOf};
 ghost use Rattle.harness.specs.Score.{ScoreExported};
 use crate::outcomes::draws_of;
 use crate::outcomes::number_of;
@@ -13,8 +14,9 @@ use session::Session;
 
 // 0 where the call is accepted, else the refusal's number. `state` is the state of the session's
 // generator, not its seed, and `draw` the session's count; both change only with an accepted call.
-// `draws` gets the draws made, 0 for a refusal. Where there is no such wave or there are not 22 knobs
-// and 5 numbers of an envelope, the answer is 4294967295 and nothing changes.
+// `draws` gets the draws made, 0 for a refusal. `points` has four words a tempo point: the numerator's low
+// and high word, the denominator, the tempo's bits. Where there is no such wave, there are not 22 knobs and
+// 5 numbers of an envelope, or `points` is no multiple of four, the answer is 4294967295 and nothing changes.
 #[no_mangle]
 pub extern "C" fn h_score(
     state: &mut u64,
@@ -23,6 +25,7 @@ pub extern "C" fn h_score(
     rate: u32,
     tempo: f32,
     steps_per_beat: u32,
+    points: &[u32],
     swing: f32,
     humanize: f32,
     wave: u32,
@@ -36,7 +39,8 @@ pub extern "C" fn h_score(
     string: &mut [f32],
 ) -> u32
     ensures { λ r. ⌜ ScoreExported (record {
-      timing = record { rate = rate; tempo = tempo; «steps_per_beat» = «steps_per_beat»; swing = swing; humanize = humanize };
+      timing = record { rate = rate; tempo = tempo; «steps_per_beat» = «steps_per_beat»; «tempo_map» = mapOf (now (points .entry)); swing = swing; humanize = humanize };
+      points = now (points .entry);
       wave = wave;
       duty = duty;
       knobs = now (knobs .entry);
@@ -66,10 +70,14 @@ pub extern "C" fn h_score(
     let EnvAt::Env(env) = env_at(env) else {
         return u32::MAX;
     };
+    if points.len() % 4 != 0 {
+        return u32::MAX;
+    }
     let timing = Timing {
         rate,
         tempo,
         steps_per_beat,
+        tempo_map: harness_map::map_of(points),
         swing,
         humanize,
     };

@@ -103,6 +103,10 @@ c10 = ofBits binary32 0x41200000
 abbrev pub c20 : Float
 c20 = ofBits binary32 0x41a00000
 
+-- 1000
+abbrev pub c1000 : Float
+c1000 = ofBits binary32 0x447a0000
+
 -- 1200
 abbrev pub c1200 : Float
 c1200 = ofBits binary32 0x44960000

@@ -5,7 +5,8 @@ use mathlib.Core.Bool.{true}
 use native.Mathlib.Omega.{arith}
 use borrow.Author.Tests.{ltb-false, eqb-true, not-false}
 use lib.ListN.{length}
-use Rattle.ieee.specs.Numbers.{c0, c1}
+use Rattle.ieee.specs.Numbers.{c0, c1, c1000}
+use Rattle.ieee.specs.Order.{withinOf}
 use Rattle.laws.proofs.Listed.{from-map}
 use Rattle.dsl.specs.Domain.{Rate, Frames, numeric}
 use Rattle.dsl.specs.Sized.{sizedOf, allSized, pitchSized}
@@ -17,14 +18,14 @@ use Rattle.dsl.specs.declared.note.Decoded.the-variants.{Note}
 use Rattle.dsl.proofs.Magnitude.{sized-numeric}
 use Rattle.dsl.proofs.Reach.{reaches-less}
 use Rattle.dsl.proofs.Cases.{NoNote}
-use Rattle.groove.specs.Number.{c1000}
-use Rattle.groove.proofs.Room.{sounded-le, length-least}
 use Rattle.outcome.specs.First.{firstOf}
 use Rattle.outcome.specs.declared.answer.Verdict.the-variants.{Fine, Refuse}
 use Rattle.outcome.specs.declared.answer.Refusal.the-variants.{Kind}
 use Rattle.outcome.proofs.First.{none-holds, or-fine, inside-least, inside-most, each-fine}
-use Rattle.score.specs.Score.{Score, rateIn, noteIn, noteCount, placeOf, place}
-use Rattle.score.specs.Refusals.{withinOf, callTests, noteTests, noteRefusal, refusal, Clean}
+use Rattle.score.specs.Score.{Score, rateIn, noteIn, noteCount, place}
+use Rattle.tempo.specs.Judge.{inDomain, inOrder}
+use Rattle.score.proofs.Standing.{len-least, sounded-most}
+use Rattle.score.specs.Refusals.{callTests, noteTests, noteRefusal, refusal, Clean}
 
 -- ---- a note
 -- a note of a score that is not refused
@@ -62,8 +63,7 @@ module _ (s : Score) (clean : Clean s) (k : ℕ) (lt : k < noteCount s) where
 
 -- the frames that sound are no more than the length
 pub sounded-reached : (s : Score) (m : SeqNote) → NoteFine s m → reaches (m .pitch) (length (s .lane)) (place s m .sounded)
-unfolding placeOf
-sounded-reached s m fine = reaches-less (m .pitch) (length (s .lane)) _ _ (fine .reached) (sounded-le (s .n) _ _)
+sounded-reached s m fine = reaches-less (m .pitch) (length (s .lane)) _ _ (fine .reached) (sounded-most (s .seq .timing) (s .n) m)
 
 -- the five words of a note are among the words
 pub words-within : (s : Score) (k : ℕ) → k < noteCount s → k * 5 + 4 < length (s .notes)
@@ -77,6 +77,8 @@ pub record Fit (s : Score) : Type 0 where
   pub tempo : withinOf (s .seq .timing .tempo) c1 c1000 ≡ true
   pub steps-least : 1 ≤ s .seq .timing .«steps_per_beat»
   pub steps-most : s .seq .timing .«steps_per_beat» ≤ 64
+  pub points : inDomain (s .seq .timing .«tempo_map») ≡ true
+  pub order : inOrder (s .seq .timing .«tempo_map») ≡ true
   pub swing : withinOf (s .seq .timing .swing) c0 c1 ≡ true
   pub humanize : withinOf (s .seq .timing .humanize) c0 c1 ≡ true
   pub knobs : allSized (knobList (s .seq .voice)) ≡ true
@@ -89,13 +91,15 @@ pub record Fit (s : Score) : Type 0 where
 
 pub fit : (s : Score) → firstOf (callTests s) ≡ Fine → Fit s
 fit s e =
-    let (rate, (n, (tempo, (steps, (swing, (human, (knobs, (duty, (env, (room, (string, (words, (lane, _))))))))))))) = none-holds (callTests s) e in
+    let (rate, (n, (tempo, (steps, (points, (order, (swing, (human, (knobs, (duty, (env, (room, (string, (words, (lane, _))))))))))))))) = none-holds (callTests s) e in
     record {
       rate = record { least = inside-least _ _ _ rate; most = inside-most _ _ _ rate };
       frames = record { most = ltb-false _ _ n };
       tempo = not-false _ tempo;
       steps-least = inside-least _ _ _ steps;
       steps-most = inside-most _ _ _ steps;
+      points = not-false _ points;
+      order = not-false _ order;
       swing = not-false _ swing;
       humanize = not-false _ human;
       knobs = not-false _ knobs;
@@ -131,5 +135,4 @@ module _ (s : Score) (ok : refusal s ≡ Fine) (k : ℕ) (lt : k < noteCount s) 
 
   -- its first pitch can be read
   pub first-reached : reaches (m .pitch) (length (s .lane)) 1
-  unfolding placeOf
-  first-reached = reaches-less (m .pitch) (length (s .lane)) _ 1 (fine-in .reached) (length-least _ _ _)
+  first-reached = reaches-less (m .pitch) (length (s .lane)) _ 1 (fine-in .reached) (len-least (s .seq .timing) (s .n) m)

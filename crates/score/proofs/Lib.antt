@@ -1,2 +1,4 @@
+pub mod Standing
 pub mod Accepted
+pub mod Straight
 pub mod Notes

@@ -13,18 +13,17 @@ use Rattle.dsl.specs.declared.note.SeqNote.{SeqNote}
 use Rattle.dsl.specs.declared.note.Decoded.{Decoded}
 use Rattle.dsl.specs.declared.note.Decoded.the-variants.{Note}
 use Rattle.counts.specs.Draws.{drawsOf}
-use Rattle.groove.proofs.Room.{length-least, length-most, sounded-some, sounded-none, sounded-within}
-use Rattle.score.specs.Score.{Score, rateIn, waveIn, noteIn, noteCount, durOf, placeOf, place, skips, pitch, drawsIn, noteDraws, sum, scoreDraws, drawsBefore}
+use Rattle.groove.proofs.Room.{sounded-some, sounded-none, sounded-within}
+use Rattle.score.proofs.Standing.{sounded-is, len-least, len-under}
+use Rattle.score.specs.Score.{Score, rateIn, waveIn, noteIn, noteCount, place, skips, pitch, drawsIn, noteDraws, sum, scoreDraws, drawsBefore}
 
 module _ (s : Score) (m : SeqNote) where
   pub len-most : Frames (s .n) → Frames (place s m .len)
-  unfolding placeOf
-  len-most h = record { most = omega (arith, length-most (m .len) (durOf (s .seq .timing)) (s .n) h, h .most) }
+  len-most h = record { most = omega (arith, len-under (s .seq .timing) (s .n) m h, h .most) }
 
   -- a skipped note: no frame of it sounds, and it changes nothing
   pub none-sounded : skips s m ≡ true → place s m .sounded ≡ 0
-  unfolding placeOf
-  none-sounded past = sounded-none (s .n) _ _ (leb-true (s .n) _ past)
+  none-sounded past = sounded-is (s .seq .timing) (s .n) m ∙ sounded-none (s .n) _ _ (leb-true (s .n) _ past)
 
   module _ (late : s .n ≤ place s m .start) where
     pub skipped-draws : 0 ≡ noteDraws s (Note m)
@@ -34,12 +33,10 @@ module _ (s : Score) (m : SeqNote) where
   -- a sounded note: a length is at least 1, so that some frame of it sounds, and those that do are the score's
   module _ (heard : skips s m ≡ false) where
     pub some-sounded : 0 < place s m .sounded
-    unfolding placeOf
-    some-sounded = sounded-some (s .n) _ _ (leb-false (s .n) _ heard) (length-least (m .len) _ (s .n))
+    some-sounded = rw (sounded-is (s .seq .timing) (s .n) m) (sounded-some (s .n) _ _ (leb-false (s .n) _ heard) (len-least (s .seq .timing) (s .n) m))
 
     pub all-within : place s m .start + place s m .sounded ≤ s .n
-    unfolding placeOf
-    all-within = sounded-within (s .n) _ _ (leb-false (s .n) _ heard)
+    all-within = rw (sounded-is (s .seq .timing) (s .n) m) (sounded-within (s .n) _ _ (leb-false (s .n) _ heard))
 
     pub sounded-draws : drawsOf (waveIn s) (rateIn s) (pitch s m 0) (place s m .sounded) ≡ noteDraws s (Note m)
     unfolding noteDraws drawsIn

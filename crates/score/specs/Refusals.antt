@@ -2,40 +2,43 @@
 use Prim.Native.Nat.{ℕ, _+_, _-_, _%_, _^_, _<_}
 use mathlib.Core.Path.{_≡_}
 use mathlib.Core.List.{List, [], _∷_, _++_, map}
-use mathlib.Core.Bool.{Bool, false, cond, not}
+use mathlib.Core.Bool.{not}
 use lib.ListN.{length}
 use lib.Dec.{ltb, eqb}
-use lib.Ieee.{Float, le}
-use Rattle.ieee.specs.Numbers.{c0, c1}
+use Rattle.ieee.specs.Numbers.{c0, c1, c1000}
+use Rattle.ieee.specs.Order.{withinOf}
 use Rattle.dsl.specs.Sized.{sizedOf, allSized, pitchSized}
 use Rattle.dsl.specs.Knobs.{knobList, envList}
 use Rattle.dsl.specs.Note.{ofNote}
 use Rattle.dsl.specs.Pitch.{passes}
 use Rattle.dsl.specs.declared.note.SeqNote.{SeqNote}
 use Rattle.dsl.specs.declared.note.Decoded.{Decoded}
-use Rattle.groove.specs.Number.{c1000}
+use Rattle.tempo.specs.Judge.{inDomain, inOrder}
+use Rattle.tempo.specs.declared.map.TempoMap.{TempoMap}
 use Rattle.outcome.specs.First.{Test, _⇒_, firstOf, orElse, firstRefusal, outside}
 use Rattle.outcome.specs.Domain.{domainTests}
-use Rattle.outcome.specs.declared.answer.Refusal.the-variants.{Tempo, StepsPerBeat, Groove, Knobs, NoteBuffer, StringBuffer, Words, Lane, Kind, Steps, Size, Reach, Draws}
+use Rattle.outcome.specs.declared.answer.Refusal.the-variants.{Tempo, StepsPerBeat, TempoPoints, TempoOrder, Groove, Knobs, NoteBuffer, StringBuffer, Words, Lane, Kind, Steps, Size, Reach, Draws}
 use Rattle.outcome.specs.declared.answer.Verdict.{Verdict}
 use Rattle.outcome.specs.declared.answer.Verdict.the-variants.{Fine, Refuse}
 use Rattle.score.specs.Score.{Score, noteIn, noteCount, notesIn, place, scoreDraws}
 use Rattle.score.specs.declared.seq.Seq.{Seq}
 use Rattle.score.specs.declared.seq.Timing.{Timing}
 
--- from low to high; a NaN is not
-unfoldable pub withinOf : Float → Float → Float → Bool
-withinOf x low high = cond (le low x) (le x high) false
+-- "31: more than 64 points, a zero denominator, a numerator of magnitude above 1,000,000,000 or a tempo outside 1 to 1,000; 32: a first point not at beat 0 or beats that, as
+-- fractions, don't strictly rise". 31 looks at all points before 32 looks at any.
+abbrev pub mapTests : TempoMap → List Test
+mapTests m = (not (inDomain m) ⇒ TempoPoints) ∷ (not (inOrder m) ⇒ TempoOrder) ∷ []
 
--- "1 rate; 2 n; 3 tempo; 4 steps per beat; 5 swing or humanize: outside the domain"
+-- "1 rate; 2 n; 3 tempo; 4 steps per beat; 5 swing or humanize: outside the domain"; 31 and 32 "both after 4 and in that order"
 abbrev pub numberTests : Timing → ℕ → List Test
 numberTests t n =
     domainTests (t .rate) n
     ++ (not (withinOf (t .tempo) c1 c1000) ⇒ Tempo)
     ∷ (outside (t .«steps_per_beat») 1 64 ⇒ StepsPerBeat)
-    ∷ (not (withinOf (t .swing) c0 c1) ⇒ Groove)
+    ∷ (mapTests (t .«tempo_map»)
+    ++ (not (withinOf (t .swing) c0 c1) ⇒ Groove)
     ∷ (not (withinOf (t .humanize) c0 c1) ⇒ Groove)
-    ∷ []
+    ∷ [])
 
 -- "6 a knob of any of the four sets, whether the wave uses it or not, the duty or an envelope number isn't sized"
 abbrev pub voiceTests : Seq → List Test

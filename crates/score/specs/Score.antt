@@ -3,6 +3,7 @@ use Prim.Native.Nat.{ℕ, zero, suc, _+_, _*_, _/_}
 use mathlib.Core.List.{List, [], _∷_, map}
 use mathlib.Core.Bool.{Bool, cond}
 use lib.ListN.{length, getD}
+use lib.Dec.{eqb}
 use lib.Ieee.{Float}
 use Rattle.laws.specs.Listed.{listed}
 use Rattle.dsl.specs.Note.{noteOf, ofNote}
@@ -12,6 +13,8 @@ use Rattle.dsl.specs.declared.note.SeqNote.{SeqNote}
 use Rattle.dsl.specs.declared.note.Decoded.{Decoded}
 use Rattle.groove.specs.Timing.{stepDur, grooveOf}
 use Rattle.groove.specs.Length.{lengthOf, skipped, soundedOf}
+use Rattle.groove.specs.Mapped.{mappedOf, mappedLength}
+use Rattle.tempo.specs.Map.{points}
 use Rattle.counts.specs.Draws.{drawsOf}
 use Rattle.score.specs.declared.seq.Seq.{Seq}
 use Rattle.score.specs.declared.seq.Timing.{Timing}
@@ -61,12 +64,24 @@ notesIn s = listed (noteIn s) (noteCount s)
 abbrev pub durOf : Timing → Float
 durOf t = stepDur (t .rate) (t .tempo) (t .«steps_per_beat»)
 
--- module 4: where a note stands among n frames. Nothing else looks at the timing.
-unfoldable pub placeOf : Timing → ℕ → SeqNote → Place
-placeOf t n m =
+abbrev pub standing : ℕ → ℕ → ℕ → Float → Place
+standing n start len gain = record { start = start; len = len; sounded = soundedOf n start len; gain = gain }
+
+-- module 4: at the straight tempo
+unfoldable pub straightPlace : Timing → ℕ → SeqNote → Place
+straightPlace t n m =
     let g = grooveOf m (t .swing) (t .humanize) (durOf t) in
-    let len = lengthOf (m .len) (durOf t) n in
-    record { start = g .start; len = len; sounded = soundedOf n (g .start) len; gain = g .gain }
+    standing n (g .start) (lengthOf (m .len) (durOf t) n) (g .gain)
+
+-- Card 2: as `render_seq_mapped` plays it
+unfoldable pub mappedPlace : Timing → ℕ → SeqNote → Place
+mappedPlace t n m =
+    let g = mappedOf m (t .swing) (t .humanize) (points (t .«tempo_map»)) (t .«steps_per_beat») (t .rate) in
+    standing n (g .start) (mappedLength (g .start) (g .end) n) (g .gain)
+
+-- Where a note stands among n frames: "with no points .. the straight tempo plays". Nothing else looks at the timing.
+unfoldable pub placeOf : Timing → ℕ → SeqNote → Place
+placeOf t n m = cond (eqb (length (points (t .«tempo_map»))) 0) (straightPlace t n m) (mappedPlace t n m)
 
 module _ (s : Score) (m : SeqNote) where
   abbrev pub place : Place

@@ -3,7 +3,8 @@ ghost use mathlib.Core.Path.{_≡_};
 ghost use Prim.Native.Nat.{_+_, _*_, _<_};
 ghost use lib.ListN.{length};
 ghost use Rattle.dsl.specs.Domain.{Frames, numeric};
-ghost use Rattle.score.specs.Score.{noteAt, placeOf};
+ghost use Rattle.tempo.specs.Map.{points};
+ghost use Rattle.score.specs.Score.{noteAt, straightPlace, mappedPlace, placeOf};
 use crate::seq::Timing;
 use dsl::Decoded;
 use dsl::SeqNote;
@@ -32,10 +33,10 @@ pub struct Place {
     pub gain: f32,
 }
 
-pub fn place_note(timing: Timing, n: usize, note: SeqNote) -> Place
+fn straight_place(timing: Timing, n: usize, note: SeqNote) -> Place
     requires { ⌜ Frames n ⌝ }
     requires { ⌜ numeric (note .pitch) ⌝ }
-    ensures { λ r. ⌜ r ≡ placeOf timing n note ⌝ }
+    ensures { λ r. ⌜ r ≡ straightPlace timing n note ⌝ }
 {
     let step_dur = groove::step_dur(timing.rate, timing.tempo, timing.steps_per_beat);
     let groove = groove::groove_note(note, timing.swing, timing.humanize, step_dur);
@@ -46,4 +47,38 @@ pub fn place_note(timing: Timing, n: usize, note: SeqNote) -> Place
         sounded: groove::sounded_frames(n, groove.start, len),
         gain: groove.gain,
     }
+}
+
+fn mapped_place(timing: Timing, n: usize, note: SeqNote) -> Place
+    requires { ⌜ numeric (note .pitch) ⌝ }
+    requires { ⌜ 0 < length (points (timing .«tempo_map»)) ⌝ }
+    ensures { λ r. ⌜ r ≡ mappedPlace timing n note ⌝ }
+{
+    let mapped = groove::groove_note_mapped(
+        note,
+        timing.swing,
+        timing.humanize,
+        timing.tempo_map,
+        timing.steps_per_beat,
+        timing.rate,
+    );
+    let len = groove::mapped_len(mapped.start, mapped.end, n);
+    Place {
+        start: mapped.start,
+        len,
+        sounded: groove::sounded_frames(n, mapped.start, len),
+        gain: mapped.gain,
+    }
+}
+
+pub fn place_note(timing: Timing, n: usize, note: SeqNote) -> Place
+    requires { ⌜ Frames n ⌝ }
+    requires { ⌜ numeric (note .pitch) ⌝ }
+    ensures { λ r. ⌜ r ≡ placeOf timing n note ⌝ }
+{
+    let map = timing.tempo_map;
+    if map.len() == 0 {
+        return straight_place(timing, n, note);
+    }
+    mapped_place(timing, n, note)
 }

@@ -1,12 +1,14 @@
 // What a score call is handed beside its notes and its lane.
 use dsl::Adsr;
 use dsl::SeqVoice;
+use tempo::TempoMap;
 
-// The rate, and what says where notes stand.
+// The rate, and what says where notes stand. A tempo map with points takes the place of the tempo.
 pub struct Timing {
     pub rate: u32,
     pub tempo: f32,
     pub steps_per_beat: u32,
+    pub tempo_map: TempoMap,
     pub swing: f32,
     pub humanize: f32,
 }

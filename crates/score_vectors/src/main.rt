@@ -2,7 +2,7 @@
 //   open SEED DRAW
 // which opens a session, or a call on it:
 //   score RATE TEMPO STEPS-PER-BEAT SWING HUMANIZE WAVE DUTY N NOTE-BUFFER STRING, then how many
-//   knobs, envelope numbers, note words and lane values there are, and these
+//   knobs, envelope numbers, note words, lane values and words of tempo points there are, and these
 // A session's state is appended, or a call's number, its draws, the session after it and the frames.
 ghost use Prim.Native.Nat.{_≤_};
 use dsl::Adsr;
@@ -15,9 +15,12 @@ use rng::Rng;
 use score::Seq;
 use score::Timing;
 use session::Session;
+use tempo::TempoMap;
 
-// How many values of a kind a line can have.
+// How many values of a kind a line can have, and how many words of tempo points.
 const MOST: usize = 64;
+
+const MOST_POINTS: usize = 264;
 
 // What the draws hold before a call, and after one that is not made.
 const DRAWS_BEFORE: u64 = 0x5555;
@@ -47,17 +50,41 @@ fn words(line: &[u8], from: usize) -> [u32; 64]
     out
 }
 
+fn point_words(line: &[u8], from: usize) -> [u32; 264]
+    requires { ⌜ from ≤ 1024 ⌝ }
+{
+    let mut out = [0u32; 264];
+    let mut i = 0;
+    while i < MOST_POINTS {
+        out[i] = vectors::u32_field(line, from + i);
+        i += 1;
+    }
+    out
+}
+
 fn voice_of(line: &[u8]) -> VoiceAt {
     let count = vectors::length_field(line, 11, MOST);
-    let values = floats(line, 15);
+    let values = floats(line, 16);
     harness_knobs::voice_at(vectors::u32_field(line, 6), &values[..count])
 }
 
 fn env_of(line: &[u8]) -> EnvAt {
-    let from = 15 + vectors::length_field(line, 11, MOST);
+    let from = 16 + vectors::length_field(line, 11, MOST);
     let count = vectors::length_field(line, 12, MOST);
     let values = floats(line, from);
     harness_knobs::env_at(&values[..count])
+}
+
+// The points follow all other values.
+fn map_of(line: &[u8]) -> TempoMap {
+    let from = 16
+        + vectors::length_field(line, 11, MOST)
+        + vectors::length_field(line, 12, MOST)
+        + vectors::length_field(line, 13, MOST)
+        + vectors::length_field(line, 14, MOST);
+    let count = vectors::length_field(line, 15, MOST_POINTS);
+    let values = point_words(line, from);
+    harness_map::map_of(&values[..count])
 }
 
 fn seq_of(line: &[u8], voice: SeqVoice, env: Adsr) -> Seq {
@@ -65,6 +92,7 @@ fn seq_of(line: &[u8], voice: SeqVoice, env: Adsr) -> Seq {
         rate: vectors::u32_field(line, 1),
         tempo: vectors::f32_field(line, 2),
         steps_per_beat: vectors::u32_field(line, 3),
+        tempo_map: map_of(line),
         swing: vectors::f32_field(line, 4),
         humanize: vectors::f32_field(line, 5),
     };
@@ -138,7 +166,7 @@ fn call(line: &[u8], session: Session, seq: Seq, notes: &[u32], lane: &[f32]) ->
 fn score(line: &[u8], session: Session, seq: Seq) -> Session {
     let word_count = vectors::length_field(line, 13, MOST);
     let lane_count = vectors::length_field(line, 14, MOST);
-    let words_at = 15
+    let words_at = 16
         + vectors::length_field(line, 11, MOST)
         + vectors::length_field(line, 12, MOST);
     let notes = words(line, words_at);
@@ -152,7 +180,7 @@ fn score(line: &[u8], session: Session, seq: Seq) -> Session {
     )
 }
 
-// Where there is no such voice or envelope, no call is made and nothing changes.
+// Where there is no such voice, envelope or list of points, no call is made and nothing changes.
 fn no_call(line: &[u8], session: Session) -> Session {
     vectors::print_u64(u32::MAX as u64);
     vectors::print_u64(DRAWS_BEFORE);
@@ -168,6 +196,9 @@ fn score_line(line: &[u8], session: Session) -> Session {
     let EnvAt::Env(env) = env_of(line) else {
         return no_call(line, session);
     };
+    if vectors::u32_field(line, 15) % 4 != 0 {
+        return no_call(line, session);
+    }
     score(line, session, seq_of(line, voice, env))
 }
 

@@ -1,8 +1,8 @@
 -- The verdicts of a score's notes and of the whole call, from those of its parts. Assumes nothing.
 use Prim.Native.Nat.{ℕ}
-use mathlib.Core.Path.{_≡_, sym, ap, _∙_}
+use mathlib.Core.Path.{_≡_, refl, sym, ap, _∙_}
 use mathlib.Core.List.{[], _∷_, map}
-use mathlib.Core.Bool.{cond}
+use mathlib.Core.Bool.{Bool, true, false, not, cond}
 use lib.ListN.{length}
 use borrow.Author.Tests.{not-false}
 use Rattle.laws.specs.Listed.{listed}
@@ -13,15 +13,40 @@ use Rattle.dsl.specs.declared.note.SeqNote.{SeqNote}
 use Rattle.dsl.specs.declared.note.Decoded.{Decoded}
 use Rattle.dsl.specs.declared.note.Decoded.the-variants.{Note}
 use Rattle.dsl.proofs.Magnitude.{sized-numeric}
+use Rattle.tempo.specs.Judge.{inDomain, inOrder}
+use Rattle.tempo.specs.declared.map.TempoMap.{TempoMap}
 use Rattle.outcome.specs.First.{_⇒_, firstOf, orElse, firstRefusal, firstAfter}
 use Rattle.outcome.specs.declared.answer.Refusal.{Refusal}
-use Rattle.outcome.specs.declared.answer.Refusal.the-variants.{Reach}
+use Rattle.outcome.specs.declared.answer.Refusal.the-variants.{TempoPoints, TempoOrder, Reach}
 use Rattle.outcome.specs.declared.answer.Verdict.{Verdict}
 use Rattle.outcome.specs.declared.answer.Verdict.the-variants.{Fine, Refuse}
-use Rattle.outcome.proofs.First.{none-holds, turned, chain-refused, chain-fine}
+use Rattle.outcome.proofs.First.{none-holds, or-fine, turned, chain-refused, chain-fine}
 use Rattle.score.specs.Score.{Score, noteIn, noteCount, notesIn, place}
-use Rattle.score.specs.Refusals.{callTests, valueTests, noteRefusal, refusal}
+use Rattle.score.specs.Refusals.{mapTests, callTests, valueTests, noteRefusal, refusal}
 use Rattle.score.proofs.Accepted.{fit}
+
+-- ---- the tempo map, v having been found before
+module _ (v : Verdict) (m : TempoMap) where
+  -- after 31
+  abbrev judged : Verdict
+  judged = orElse v (cond (not (inDomain m)) (Refuse TempoPoints) Fine)
+
+  abbrev then-order : Verdict → Verdict
+  then-order w = orElse w (cond (not (inOrder m)) (Refuse TempoOrder) Fine)
+
+  pub map-refuses : {r : Refusal} → Refuse r ≡ judged → Refuse r ≡ firstAfter v (mapTests m)
+  map-refuses e = ap then-order e
+
+  module _ (fine : Fine ≡ judged) where
+    pub map-domain : inDomain m ≡ true
+    map-domain = by (inDomain m) (or-fine v _ (sym fine) .1)
+      where
+        by : (b : Bool) → cond (not b) (Refuse TempoPoints) Fine ≡ Fine → b ≡ true
+        by true e = refl
+        by false e = cc
+
+    pub order-decides : {w : Verdict} → w ≡ then-order Fine → w ≡ firstAfter v (mapTests m)
+    order-decides e = e ∙ ap then-order fine
 
 -- ---- one note, whose words are e
 module _ (s : Score) (e : Decoded) (m : SeqNote) (is : e ≡ Note m) where

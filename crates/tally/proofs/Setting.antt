@@ -8,8 +8,7 @@ use native.Mathlib.Omega.{arith}
 use native.Mathlib.Nat.{add-zero, le-refl}
 use lib.ListN.{length, getD}
 use lib.Dec.{ltb, eqb}
-use lib.Ieee.{Float, binary32, ofBits, lt}
-use Rattle.ieee.specs.Numbers.{c0}
+use lib.Ieee.{Float, binary32, ofBits}
 use Rattle.laws.specs.Listed.{listed}
 use Rattle.laws.proofs.Listed.{from-map, listed-same}
 use Rattle.rng.specs.SplitMix64.{stateAfter}
@@ -25,7 +24,8 @@ use Rattle.dsl.specs.declared.note.Decoded.the-variants.{Note, NoKind}
 use Rattle.dsl.proofs.Cases.{NoNote, by-kind}
 use Rattle.groove.specs.Humanize.{seedOf, humanizeDraws}
 use Rattle.groove.specs.Timing.{humanDelay, grooveOf}
-use Rattle.groove.specs.Length.{lengthOf, soundedOf}
+use Rattle.groove.specs.Mapped.{endStep, humanDelay64, mappedOf}
+use Rattle.tempo.specs.Map.{points}
 use Rattle.counts.specs.Draws.{drawsOf}
 use Rattle.outcome.specs.Answer.{accepted, unless, reported}
 use Rattle.outcome.specs.First.{Test, _⇒_, firstOf, orElse, firstRefusal}
@@ -35,7 +35,9 @@ use Rattle.outcome.specs.declared.answer.Verdict.the-variants.{Fine, Refuse}
 use Rattle.outcome.proofs.First.{first-append}
 use Rattle.session.specs.Opened.{sessionAt}
 use Rattle.session.specs.declared.Session.{Session}
-use Rattle.score.specs.Score.{Score, rateIn, waveIn, noteAt, noteIn, noteCount, notesIn, durOf, placeOf, place, skips, pitch, drawsIn, noteDraws, drawsBefore, scoreDraws}
+use Rattle.score.specs.declared.seq.Timing.{Timing}
+use Rattle.score.specs.declared.place.Place.{Place}
+use Rattle.score.specs.Score.{Score, rateIn, waveIn, noteAt, noteIn, noteCount, notesIn, straightPlace, mappedPlace, placeOf, place, skips, pitch, drawsIn, noteDraws, drawsBefore, scoreDraws}
 use Rattle.score.specs.Refusals.{numberTests, voiceTests, lentTests, listTests, callTests, noteTests, noteRefusal, refusal, refusalAt}
 use Rattle.score.proofs.Notes.{none-sounded, some-sounded, draws-all}
 use Rattle.score_contract.specs.ScoreCall.{Event, scoreIn}
@@ -95,12 +97,19 @@ same-draws s s′ alike = draws-all s ∙ before-same s s′ alike (noteCount s)
 abbrev note : ℕ → ℕ → Pitch → Float → SeqNote
 note step len p gain = record { step = step; len = len; pitch = p; gain = gain }
 
--- a note's gain does not move its start
-start-by : (step len : ℕ) (p : Pitch) (gain gain′ swing humanize dur : Float) (b : Bool) → lt c0 humanize ≡ b
-    → grooveOf (note step len p gain) swing humanize dur .start ≡ grooveOf (note step len p gain′) swing humanize dur .start
-unfolding grooveOf humanDelay humanizeDraws seedOf
-start-by step len p gain gain′ swing humanize dur true e = rw e
-start-by step len p gain gain′ swing humanize dur false e = rw e
+-- a note's gain moves neither its start nor its length
+either : {A : Type 0} (f : Place → A) (b : Bool) (x y x′ y′ : Place) → f x ≡ f x′ → f y ≡ f y′ → f (cond b x y) ≡ f (cond b x′ y′)
+either f true x y x′ y′ p q = p
+either f false x y x′ y′ p q = q
+
+module _ (t : Timing) (n step len : ℕ) (p : Pitch) (gain gain′ : Float) where
+  sounded-by : placeOf t n (note step len p gain) .sounded ≡ placeOf t n (note step len p gain′) .sounded
+  unfolding placeOf straightPlace mappedPlace grooveOf mappedOf humanDelay humanDelay64 humanizeDraws seedOf endStep
+  sounded-by = either (λ (x : Place). x .sounded) (eqb (length (points (t .«tempo_map»))) 0) _ _ _ _ refl refl
+
+  len-by : placeOf t n (note step len p gain) .len ≡ placeOf t n (note step len p gain′) .len
+  unfolding placeOf straightPlace mappedPlace grooveOf mappedOf humanDelay humanDelay64 humanizeDraws seedOf endStep
+  len-by = either (λ (x : Place). x .len) (eqb (length (points (t .«tempo_map»))) 0) _ _ _ _ refl refl
 
 -- a reading of notes that does not see the gain
 abbrev Free : {A : Type 0} → (Decoded → A) → Type 0
@@ -118,8 +127,7 @@ word-free {A} read free step len kind p g g′ = by (eqb kind 0) (eqb kind 1)
     by false false = refl
 
 sounded-free : (s : Score) → Free (soundedIn s)
-unfolding placeOf
-sounded-free s step len p gain gain′ = ap (λ (start : ℕ). soundedOf (s .n) start (lengthOf len (durOf (s .seq .timing)) (s .n))) (start-by step len p gain gain′ _ _ _ _ refl)
+sounded-free s step len p gain gain′ = sounded-by (s .seq .timing) (s .n) step len p gain gain′
 
 -- ---- a note's refusal, but for its gain
 abbrev bareTests : Score → SeqNote → List Test
@@ -140,8 +148,10 @@ gain-passes s = by-kind (λ e. gainSized e ≡ true → noteRefusal s e ≡ bare
     (λ e none sized. none .other (Refuse Kind) (λ m. firstOf (noteTests s m)) ∙ sym (none .other (Refuse Kind) (λ m. firstOf (bareTests s m))))
 
 bare-free : (s : Score) → Free (bareRefusal s)
-unfolding bareRefusal placeOf
-bare-free s step len p gain gain′ = refl
+unfolding bareRefusal
+bare-free s step len p gain gain′ =
+    ap (λ (k : ℕ). firstOf ((ltb 1048575 step ⇒ Steps) ∷ (ltb 1048575 len ⇒ Steps) ∷ (not (pitchSized p) ⇒ Size) ∷ (passes p (length (s .lane)) k ⇒ Reach) ∷ []))
+    (len-by (s .seq .timing) (s .n) step len p gain gain′)
 
 module _ (s s′ : Score) (r : Reset s s′) where
   -- note k of s is that of s′ but for its gain

@@ -28,7 +28,7 @@ use Rattle.tally.specs.Tally.{Taken, takenNote, taken, takenAfter, allTaken, ta
 use Rattle.tally.proofs.AllCalls.{taken-whole}
 use Rattle.text_listing.specs.Lines.{printedR}
 use Rattle.text_listing.proofs.Listings.{refusal-length, listing-length}
-use Rattle.text_read.specs.Text.{textOf}
+use Rattle.text_read.specs.Text.{seqIn, textOf}
 use Rattle.text.specs.Reply.{tooShort, replyOf, bytesAfter, Replied}
 use Rattle.text.specs.declared.call.Reply.{Reply}
 use Rattle.text.specs.declared.call.Reply.the-variants.{Listing, Short}
@@ -150,7 +150,7 @@ listing-most text =
     (λ e.
     let u = unrefused-read text e in
     let t = u .said in
-    rw (u .is) (played-most (t .seq) (t .notes) (t .n) (t .seed) (t .draw) (u .frames)))
+    rw (u .is) (played-most (seqIn t) (t .notes) (t .numbers .n) (t .seed) (t .draw) (u .frames)))
 
 -- a reply of 32,808 bytes or more is never short: it holds the listing, whatever the text
 module _ (text reply₀ : List ℕ) (room : 32808 ≤ length reply₀) where

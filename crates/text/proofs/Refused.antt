@@ -13,7 +13,7 @@ use Rattle.tally.specs.Tally.{tally}
 use Rattle.text_digits.specs.Read.{Read, got, broken}
 use Rattle.text_listing.specs.Lines.{printedR}
 use Rattle.text_read.specs.Notes.{countOf}
-use Rattle.text_read.specs.Text.{Text, textOf}
+use Rattle.text_read.specs.Text.{Text, seqIn, textOf}
 use Rattle.text.specs.Listing.{callOf, shown, played, formBroken, tooLarge, textRefusal, playedRead, unlessRefused, listing}
 
 -- a number by tests is 0: the first test is false, and so is the rest 0
@@ -31,7 +31,7 @@ unfolding listing
 refused-line text number e = ap (λ (n : ℕ). unlessRefused n (playedRead (textOf text))) e
 
 pub past-line : (text : List ℕ) {t : Text} {rest : List ℕ} → textRefusal text ≡ 0 → textOf text ≡ got t rest
-    → listing text ≡ shown (t .seed) (tally (t .seed) (t .draw) (callOf (t .seq) (t .notes) (t .n) ∷ []))
+    → listing text ≡ shown (t .seed) (tally (t .seed) (t .draw) (callOf (seqIn t) (t .notes) (t .numbers .n) ∷ []))
 unfolding listing played
 past-line text e is = rw (e, is)
 
@@ -41,7 +41,7 @@ pub record Unrefused (text : List ℕ) : Type 0 where
   pub rest : List ℕ
   pub is : textOf text ≡ got said rest
   pub bytes : length text ≤ 65536
-  pub frames : said .n ≤ 2048
+  pub frames : said .numbers .n ≤ 2048
   pub notes : countOf (said .notes) ≤ 256
 
 neither : (a b : Bool) → cond a true b ≡ false → (a ≡ false) × (b ≡ false)
@@ -51,13 +51,13 @@ neither false b e = (refl, e)
 unrefused : (text : List ℕ) (x : Read Text) → textOf text ≡ x → length text ≤ 65536 → formBroken x ≡ false → tooLarge x ≡ false → Unrefused text
 unrefused text broken is few formed small = let z : _≡_ {A = ℕ} 0 1 = cc in absurd (omega arith)
 unrefused text (got t rest) is few formed small =
-    let within = neither (ltb 2048 (t .n)) (ltb 256 (countOf (t .notes))) small in
+    let within = neither (ltb 2048 (t .numbers .n)) (ltb 256 (countOf (t .notes))) small in
     record {
       said = t;
       rest = rest;
       is = is;
       bytes = few;
-      frames = ltb-false 2048 (t .n) (within .0);
+      frames = ltb-false 2048 (t .numbers .n) (within .0);
       notes = ltb-false 256 (countOf (t .notes)) (within .1);
     }
 

@@ -19,7 +19,7 @@ use Rattle.tally.specs.Claim.{none, call, seenIn}
 use Rattle.tally.proofs.AllCalls.{all-calls}
 use Rattle.text_digits.specs.Read.{Read, got, broken}
 use Rattle.text_read.specs.Notes.{countOf}
-use Rattle.text_read.specs.Text.{Text, textOf}
+use Rattle.text_read.specs.Text.{Text, seqOf, textOf}
 use Rattle.text_read.specs.declared.text.TextScore.{TextScore}
 use Rattle.text_read.proofs.Said.{Said}
 use Rattle.text_listing.specs.Lines.{printedR}
@@ -69,8 +69,8 @@ module _ (text : List ℕ) where
       abbrev t : Text
       t = said .text
 
-      long : x .n ≡ t .n
-      long = ap (λ (y : TextScore). y .n) (said .score)
+      long : x .numbers .n ≡ t .numbers .n
+      long = ap (λ (y : TextScore). y .numbers .n) (said .score)
 
       many : x .count ≡ countOf (t .notes)
       many = ap (λ (y : TextScore). y .count) (said .score)
@@ -79,17 +79,18 @@ module _ (text : List ℕ) where
       sized-as : (b : Bool) → tooLarge (got t (said .rest)) ≡ b → cond b 16 0 ≡ textRefusal text
       sized-as b e = read-as (cond b 16 0) (got t (said .rest)) (said .is) (sym (ap (λ (z : Bool). cond z 16 0) e))
 
-      pub listing-frames : 2048 < x .n → printedR 16 ≡ listing text
+      pub listing-frames : 2048 < x .numbers .n → printedR 16 ≡ listing text
       listing-frames h = listing-refused 16 (omega arith) (sized-as true (sym (if-true _ (lt-ltb _ _ (rw long at h)) refl)))
 
-      pub listing-notes : x .n ≤ 2048 → 256 < x .count → printedR 16 ≡ listing text
+      pub listing-notes : x .numbers .n ≤ 2048 → 256 < x .count → printedR 16 ≡ listing text
       listing-notes f h =
           let some : tooLarge (got t (said .rest)) ≡ true = sym (if-false _ (le-ltb _ _ (rw long at f)) (sym (lt-ltb _ _ (rw many at h)))) in
           listing-refused 16 (omega arith) (sized-as true some)
 
-      pub listing-played : x .n ≤ 2048 → x .count ≤ 256 → (ws : List ℕ) → ws ≡ t .notes → played (x .seq) ws (x .n) (x .seed) (x .draw) ≡ listing text
+      pub listing-played : x .numbers .n ≤ 2048 → x .count ≤ 256 → (ws : List ℕ) → ws ≡ t .notes → played (seqOf (x .numbers) (x .env) (x .sound)) ws (x .numbers .n) (x .seed) (x .draw) ≡ listing text
       unfolding listing
       listing-played f h ws is =
           let few : tooLarge (got t (said .rest)) ≡ false = sym (if-false _ (le-ltb _ _ (rw long at f)) (sym (le-ltb _ _ (rw many at h)))) in
           let none : 0 ≡ textRefusal text = sized-as false few in
-          rw (← none, said .is) (λ j. played (said .score j .seq) (is j) (said .score j .n) (said .score j .seed) (said .score j .draw))
+          rw (← none, said .is)
+          (λ j. played (seqOf (said .score j .numbers) (said .score j .env) (said .score j .sound)) (is j) (said .score j .numbers .n) (said .score j .seed) (said .score j .draw))

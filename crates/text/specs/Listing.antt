@@ -10,7 +10,7 @@ use Rattle.score.specs.Score.{Score}
 use Rattle.score.specs.declared.seq.Seq.{Seq}
 use Rattle.tally.specs.Tally.{Tally, tally}
 use Rattle.text_digits.specs.Read.{Read, got, broken}
-use Rattle.text_read.specs.Text.{Text, textOf}
+use Rattle.text_read.specs.Text.{Text, seqIn, textOf}
 use Rattle.text_read.specs.Notes.{countOf}
 use Rattle.text_listing.specs.Lines.{listingOf, printedR}
 
@@ -44,7 +44,7 @@ formBroken (got t rest) = false
 -- "n above 2,048 or notes above 256"
 abbrev pub tooLarge : Read Text → Bool
 tooLarge broken = false
-tooLarge (got t rest) = cond (ltb 2048 (t .n)) true (ltb 256 (countOf (t .notes)))
+tooLarge (got t rest) = cond (ltb 2048 (t .numbers .n)) true (ltb 256 (countOf (t .notes)))
 
 -- a test, and the number that refuses a text where it holds; a text's refusals have no place in a library call's `Refusal`
 pub record TextTest : Type 0 where
@@ -71,7 +71,7 @@ textRefusal text = firstNumber (textTests text)
 -- the one score call of what was read; nothing of a broken text, whose refusal is never 0 (the law `unrefused-read`)
 abbrev pub playedRead : Read Text → List ℕ
 playedRead broken = []
-playedRead (got t rest) = played (t .seq) (t .notes) (t .n) (t .seed) (t .draw)
+playedRead (got t rest) = played (seqIn t) (t .notes) (t .numbers .n) (t .seed) (t .draw)
 
 -- "A refused score prints one line alone": that of the number, unless it is 0
 abbrev pub unlessRefused : ℕ → List ℕ → List ℕ

@@ -23,7 +23,8 @@ fn print_listing(text: &[u8], page: &mut [u8]) -> usize
     let Parsed::Score(score) = text_read::read_score(text, &mut notes) else {
         return text_listing::put_refusal(page, 15);
     };
-    if score.n > 2048 {
+    let numbers = score.numbers;
+    if numbers.n > 2048 {
         return text_listing::put_refusal(page, 16);
     }
     if score.count > 256 {
@@ -31,9 +32,9 @@ fn print_listing(text: &[u8], page: &mut [u8]) -> usize
     }
     let words = &notes[..score.count * 5];
     play_score(
-        score.seq,
+        score.seq(),
         words,
-        score.n as usize,
+        numbers.n as usize,
         score.seed,
         score.draw,
         page,

@@ -40,13 +40,9 @@ voicing = "V\t2\t3f000000\n"
 abbrev says : SeqVoice → List ℕ → Text
 says voice notes =
     record {
-      seq = record {
-        timing = record { rate = 8000; tempo = ofBits binary32 0x42f00000; «steps_per_beat» = 4; swing = ofBits binary32 0; humanize = ofBits binary32 0 };
-        voice = voice;
-        duty = ofBits binary32 0x3f000000;
-        env = record { a = ofBits binary32 0; d = ofBits binary32 0; s = ofBits binary32 0x3f800000; r = ofBits binary32 0; punch = ofBits binary32 0 };
-      };
-      n = 4;
+      numbers = record { rate = 8000; n = 4; tempo = ofBits binary32 0x42f00000; «steps_per_beat» = 4; swing = ofBits binary32 0; humanize = ofBits binary32 0 };
+      env = record { a = ofBits binary32 0; d = ofBits binary32 0; s = ofBits binary32 0x3f800000; r = ofBits binary32 0; punch = ofBits binary32 0 };
+      sound = record { voice = voice; duty = ofBits binary32 0x3f000000 };
       seed = 0;
       draw = 0;
       notes = notes;

@@ -8,7 +8,7 @@ use Rattle.text_digits.specs.Read.{Read, got, broken, after}
 use Rattle.text_lines.specs.Line.{lineS, lineG, lineE}
 use Rattle.text_voice_line.specs.Voice.{lineV}
 use Rattle.text_read.specs.Notes.{notesOf, countOf, counted, wordsAfter, Noted}
-use Rattle.text_read.specs.Text.{Text, seqOf, textOf, parsedOf, notesRead, Parses}
+use Rattle.text_read.specs.Text.{Text, textOf, parsedOf, notesRead, Parses}
 use Rattle.text_lines.specs.declared.Numbers.{Numbers}
 use Rattle.text_lines.specs.declared.Opening.{Opening}
 use Rattle.text_voice_line.specs.declared.Sound.{Sound}
@@ -41,7 +41,7 @@ module _ (text words : List ℕ) where
 
         module _ {v : Sound} {s₄ : List ℕ} (hV : got v s₄ ≡ lineV s₃) where
           textWith : List ℕ → Text
-          textWith ws = record { seq = seqOf a env v; n = a .n; seed = g .seed; draw = g .draw; notes = ws }
+          textWith ws = record { numbers = a; env = env; sound = v; seed = g .seed; draw = g .draw; notes = ws }
 
           lines-read : textOf text ≡ after (notesOf s₄) (λ ws rest. got (textWith ws) rest)
           unfolding textOf textWith
@@ -56,7 +56,7 @@ module _ (text words : List ℕ) where
           bad (got ws rest) e = let z : _≡_ {A = ℕ} 0 1 = cc in absurd (omega arith)
           bad broken e = refl
 
-          good : (x : Read (List ℕ)) {n : ℕ} → count-of.Lines n ≡ counted x → Score (record { seq = seqOf a env v; n = a .n; seed = g .seed; draw = g .draw; count = n }) ≡ parsedOf (textFrom x)
+          good : (x : Read (List ℕ)) {n : ℕ} → count-of.Lines n ≡ counted x → Score (record { numbers = a; env = env; sound = v; seed = g .seed; draw = g .draw; count = n }) ≡ parsedOf (textFrom x)
           unfolding textFrom textWith
           good (got ws rest) {n} e = let z : n ≡ countOf ws = cc in rw z
           good broken e = let z : _≡_ {A = ℕ} 0 1 = cc in absurd (omega arith)
@@ -75,6 +75,6 @@ module _ (text words : List ℕ) where
             unfolding textFrom
             broken-notes told = record { answer = rw (lines-read, ← (bad (notesOf s₄) (rw told at (h .count)))); words = words-after }
 
-            pub all-lines : {n : ℕ} → r ≡ count-of.Lines n → Parses text words (Score (record { seq = seqOf a env v; n = a .n; seed = g .seed; draw = g .draw; count = n })) words₁
+            pub all-lines : {n : ℕ} → r ≡ count-of.Lines n → Parses text words (Score (record { numbers = a; env = env; sound = v; seed = g .seed; draw = g .draw; count = n })) words₁
             unfolding textFrom
             all-lines told = record { answer = rw lines-read (good (notesOf s₄) (rw told at (h .count))); words = words-after }

@@ -12,24 +12,30 @@ use Rattle.text_lines.specs.declared.Numbers.{Numbers}
 use Rattle.text_voice_line.specs.declared.Sound.{Sound}
 use Rattle.text_read.specs.declared.text.TextScore.{TextScore}
 use Rattle.text_read.specs.declared.text.Parsed.{Parsed}
+use Rattle.tempo.specs.Map.{noMap}
 use Rattle.text_read.specs.declared.text.Parsed.the-variants.{Score, Broken}
 
--- What a text score says: a score call's numbers, voice and note words, the length n of its output, and the seed and the draw that open its session.
+-- What a text score says: a score call's numbers with the length n of its output, envelope and voice, the seed and the draw that open its session, and the note words.
 pub record Text : Type 0 where
-  pub seq : Seq
-  pub n : ℕ
+  pub numbers : Numbers
+  pub env : Adsr
+  pub sound : Sound
   pub seed : ℕ
   pub draw : ℕ
   pub notes : List ℕ
 
+-- what the score call is handed. A text score has no tempo map.
 abbrev pub seqOf : Numbers → Adsr → Sound → Seq
 seqOf a env v =
     record {
-      timing = record { rate = a .rate; tempo = a .tempo; «steps_per_beat» = a .«steps_per_beat»; swing = a .swing; humanize = a .humanize };
+      timing = record { rate = a .rate; tempo = a .tempo; «steps_per_beat» = a .«steps_per_beat»; «tempo_map» = noMap; swing = a .swing; humanize = a .humanize };
       voice = v .voice;
       duty = v .duty;
       env = env;
     }
+
+abbrev pub seqIn : Text → Seq
+seqIn t = seqOf (t .numbers) (t .env) (t .sound)
 
 -- "In order: S .. G .. E .. V .. then N"; nothing follows the notes
 unfoldable pub textOf : List ℕ → Read Text
@@ -38,11 +44,11 @@ textOf s =
     after (lineG s₁) (λ g s₂.
     after (lineE s₂) (λ env s₃.
     after (lineV s₃) (λ v s₄.
-    after (notesOf s₄) (λ ws rest. got (record { seq = seqOf a env v; n = a .n; seed = g .seed; draw = g .draw; notes = ws }) rest)))))
+    after (notesOf s₄) (λ ws rest. got (record { numbers = a; env = env; sound = v; seed = g .seed; draw = g .draw; notes = ws }) rest)))))
 
 -- what a reader of the text answers
 abbrev pub textScoreOf : Text → TextScore
-textScoreOf t = record { seq = t .seq; n = t .n; seed = t .seed; draw = t .draw; count = countOf (t .notes) }
+textScoreOf t = record { numbers = t .numbers; env = t .env; sound = t .sound; seed = t .seed; draw = t .draw; count = countOf (t .notes) }
 
 abbrev pub parsedOf : Read Text → Parsed
 parsedOf (got t rest) = Score (textScoreOf t)

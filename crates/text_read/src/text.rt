@@ -1,26 +1,57 @@
 // The whole text.
-ghost use Rattle.text_read.specs.Text.{Parses};
+ghost use mathlib.Core.Path.{_≡_};
+ghost use Rattle.text_read.specs.Text.{seqOf, Parses};
 use crate::notes::Count;
 use crate::notes::notes;
+use dsl::Adsr;
 use score::Seq;
 use score::Timing;
+use tempo::TempoMap;
 use text_lines::LineE;
 use text_lines::LineG;
 use text_lines::LineS;
+use text_lines::Numbers;
 use text_lines::line_e;
 use text_lines::line_g;
 use text_lines::line_s;
 use text_voice_line::LineV;
+use text_voice_line::Sound;
 use text_voice_line::line_v;
 
-// A score call's numbers and voice, the length of its output, the seed and the draw that open its
-// session, and how many notes it has. The notes' words stand in a lent slice.
+// What the lines S, G, E and V say, and how many notes there are, whose words stand in a lent slice.
 pub struct TextScore {
-    pub seq: Seq,
-    pub n: u32,
+    pub numbers: Numbers,
+    pub env: Adsr,
+    pub sound: Sound,
     pub seed: u64,
     pub draw: u64,
     pub count: usize,
+}
+
+impl TextScore {
+    // The score call's numbers and voice. A text score has no tempo map.
+    pub fn seq(self) -> Seq
+        ensures { λ r. ⌜ r ≡ seqOf (self .numbers) (self .env) (self .sound) ⌝ }
+    {
+        let numbers = self.numbers;
+        let sound = self.sound;
+        let voice = sound.voice;
+        let env = self.env;
+        let timing = Timing {
+            rate: numbers.rate,
+            tempo: numbers.tempo,
+            steps_per_beat: numbers.steps_per_beat,
+            tempo_map: TempoMap::none(),
+            swing: numbers.swing,
+            humanize: numbers.humanize,
+        };
+        Seq {
+            timing,
+            voice,
+            duty: sound.duty,
+            env,
+        }
+    }
 }
 
 pub enum Parsed {
@@ -49,23 +80,10 @@ pub fn read_score(text: &[u8], words: &mut [u32]) -> Parsed
     let Count::Lines(count) = notes(text, d, words) else {
         return Parsed::Broken;
     };
-    let voice = sound.voice;
-    let timing = Timing {
-        rate: numbers.rate,
-        tempo: numbers.tempo,
-        steps_per_beat: numbers.steps_per_beat,
-        swing: numbers.swing,
-        humanize: numbers.humanize,
-    };
-    let seq = Seq {
-        timing,
-        voice,
-        duty: sound.duty,
-        env,
-    };
     Parsed::Score(TextScore {
-        seq,
-        n: numbers.n,
+        numbers,
+        env,
+        sound,
         seed: opening.seed,
         draw: opening.draw,
         count,

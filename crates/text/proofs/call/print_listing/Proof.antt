@@ -23,65 +23,72 @@ put-refusal-requires-2 c κs = let p = c .before .before .before .before .before
 returns-2 : tie.Need-returns-2
 returns-2 c =
     let b4 = c .before .before .before .before in
-    let b7 = b4 .before .before .before in
-    let b10 = b7 .before .before .before in
+    let b7 = c .before .before .before .before .before .before .before in
+    let b10 = c .before .before .before .before .before .before .before .before .before .before in
     printed-as (listing-broken _ (b10 .if1 .left) (parsed-broken (b7 .read-score .ensures) (b4 .enum-told .given .1))) (c .before .before .put-refusal2 .ensures)
 
 put-refusal-requires-3 : tie.Need-put-refusal-requires-3
-put-refusal-requires-3 c κs = let p = c .before .before .before .before .before .before .before .before .before .before .before .before .before .pre in omega arith
+put-refusal-requires-3 c κs = let p = c .before .before .before .before .before .before .before .before .before .before .before .before .before .before .pre in omega arith
 
 returns-3 : tie.Need-returns-3
 returns-3 c =
     let b4 = c .before .before .before .before in
-    let b7 = b4 .before .before .before in
-    let b10 = b7 .before .before .before in
-    let b13 = b10 .before .before .before in
-    printed-as (listing-frames _ (b13 .if1 .left) (parsed-score (b10 .read-score .ensures) (b7 .score .given .1)) (b4 .if2 .taken)) (c .before .before .put-refusal3 .ensures)
+    let b8 = c .before .before .before .before .before .before .before .before in
+    let b11 = c .before .before .before .before .before .before .before .before .before .before .before in
+    let b14 = c .before .before .before .before .before .before .before .before .before .before .before .before .before .before in
+    printed-as (listing-frames _ (b14 .if1 .left) (parsed-score (b11 .read-score .ensures) (b8 .score .given .1)) (b4 .if2 .taken)) (c .before .before .put-refusal3 .ensures)
 
 put-refusal-requires-4 : tie.Need-put-refusal-requires-4
-put-refusal-requires-4 c κs = let p = c .before .before .before .before .before .before .before .before .before .before .before .before .before .before .before .pre in omega arith
+put-refusal-requires-4 c κs = let p = c .before .before .before .before .before .before .before .before .before .before .before .before .before .before .before .before .pre in omega arith
 
 returns-4 : tie.Need-returns-4
 returns-4 c =
     let b4 = c .before .before .before .before in
-    let b9 = b4 .before .before .before .before .before in
-    let b12 = b9 .before .before .before in
-    let b15 = b12 .before .before .before in
+    let b6 = c .before .before .before .before .before .before in
+    let b10 = c .before .before .before .before .before .before .before .before .before .before in
+    let b13 = c .before .before .before .before .before .before .before .before .before .before .before .before .before in
+    let b16 = c .before .before .before .before .before .before .before .before .before .before .before .before .before .before .before .before in
     printed-as
-    (listing-notes _ (b15 .if1 .left) (parsed-score (b12 .read-score .ensures) (b9 .score .given .1)) (b4 .before .before .if2 .left) (b4 .if3 .taken))
+    (listing-notes _ (b16 .if1 .left) (parsed-score (b13 .read-score .ensures) (b10 .score .given .1)) (b6 .if2 .left) (b4 .if3 .taken))
     (c .before .before .put-refusal4 .ensures)
 
 array-share-prefix-notes : tie.Need-array-share-prefix-notes
 array-share-prefix-notes c =
-    let b6 = c .before .before .before .before .before .before in
-    let b9 = b6 .before .before .before in
-    let room : b6 .score .given .0 .0 .count * 5 ≤ length (b9 .before .before .words-buffer .result) = omega (arith, b9 .before .before .words-buffer .ensures, c .before .if3 .left) in
-    let kept = b9 .read-score .kept .1 .0 in
+    let b7 = c .before .before .before .before .before .before .before in
+    let b10 = c .before .before .before .before .before .before .before .before .before .before in
+    let b12 = c .before .before .before .before .before .before .before .before .before .before .before .before in
+    let room : b7 .score .given .0 .0 .count * 5 ≤ length (b12 .words-buffer .result) = omega (arith, b12 .words-buffer .ensures, c .before .if3 .left) in
+    let kept = b10 .read-score .kept .1 .0 in
     omega arith
 
 slice-aggregate-words : tie.Need-slice-aggregate-words
 slice-aggregate-words c =
-    let b7 = c .before .before .before .before .before .before .before in
-    let b10 = b7 .before .before .before in
-    let room : b7 .score .given .0 .0 .count * 5 ≤ length (b10 .before .before .words-buffer .result) = omega (arith, b10 .before .before .words-buffer .ensures, c .before .before .if3 .left) in
-    let kept = b10 .read-score .kept .1 .0 in
+    let b8 = c .before .before .before .before .before .before .before .before in
+    let b11 = c .before .before .before .before .before .before .before .before .before .before .before in
+    let b13 = c .before .before .before .before .before .before .before .before .before .before .before .before .before in
+    let room : b8 .score .given .0 .0 .count * 5 ≤ length (b13 .words-buffer .result) = omega (arith, b13 .words-buffer .ensures, c .before .before .if3 .left) in
+    let kept = b11 .read-score .kept .1 .0 in
     sym (length-take-le _ _ (omega arith))
 
 play-score-requires : tie.Need-play-score-requires
 play-score-requires c κs =
-    let b6 = c .before .before .before .before .before .before in
-    let b18 = b6 .before .before .before .before .before .before .before .before .before .before .before .before in
-    (b6 .if2 .left, b18 .pre)
+    let b7 = c .before .before .before .before .before .before .before in
+    let b20 = c .before .before .before .before .before .before .before .before .before .before .before .before .before .before .before .before .before .before .before .before in
+    (b7 .if2 .left, b20 .pre)
 
 returns-5 : tie.Need-returns-5
 returns-5 c =
-    let b7 = c .before .before .before .before .before .before .before in
-    let b12 = b7 .before .before .before .before .before in
-    let b15 = b12 .before .before .before in
-    let b18 = b15 .before .before .before in
-    let room : b12 .score .given .0 .0 .count * 5 ≤ length (b15 .before .before .words-buffer .result) = omega (arith, b15 .before .before .words-buffer .ensures, b7 .if3 .left) in
-    let said = (parsed-score (b15 .read-score .ensures) (b12 .score .given .1)) in
-    printed-as (listing-played _ (b18 .if1 .left) said (b7 .before .before .if2 .left) (b7 .if3 .left) _ (said-words _ said room)) (c .before .before .play-score .ensures)
+    let b5 = c .before .before .before .before .before in
+    let b8 = c .before .before .before .before .before .before .before .before in
+    let b10 = c .before .before .before .before .before .before .before .before .before .before in
+    let b14 = c .before .before .before .before .before .before .before .before .before .before .before .before .before .before in
+    let b17 = c .before .before .before .before .before .before .before .before .before .before .before .before .before .before .before .before .before in
+    let b19 = c .before .before .before .before .before .before .before .before .before .before .before .before .before .before .before .before .before .before .before in
+    let b20 = c .before .before .before .before .before .before .before .before .before .before .before .before .before .before .before .before .before .before .before .before in
+    let room : b14 .score .given .0 .0 .count * 5 ≤ length (b19 .words-buffer .result) = omega (arith, b19 .words-buffer .ensures, b8 .if3 .left) in
+    let said = (parsed-score (b17 .read-score .ensures) (b14 .score .given .1)) in
+    let played = rw (b5 .seq .ensures) at (c .before .before .play-score .ensures) in
+    printed-as (listing-played _ (b20 .if1 .left) said (b10 .if2 .left) (b8 .if3 .left) _ (said-words _ said room)) played
 
 pub print-listing-spec : {M : Type 1} → statement M
 print-listing-spec =
@@ -107,6 +114,7 @@ print-listing-spec =
     (λ c. search needs)
     array-share-prefix-notes
     slice-aggregate-words
+    (λ c κs. search needs)
     (λ c. search needs)
     play-score-requires
     (λ c. search needs)

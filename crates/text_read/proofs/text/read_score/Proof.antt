@@ -42,15 +42,15 @@ returns-5 c =
 
 returns-6 : tie.Need-returns-6
 returns-6 c =
-    let b6 = c .before .before .before .before .before .before in
-    let b9 = b6 .before .before .before in
-    let b13 = b9 .before .before .before .before in
-    let b17 = b13 .before .before .before .before in
-    let b21 = b17 .before .before .before .before in
-    let numbers = rw (b21 .numbers .given .1) at (b21 .before .before .line-s .ensures) in
-    let opening = rw (b17 .opening .given .1) at (b17 .before .before .line-g .ensures) in
-    let env = rw (b13 .env .given .1) at (b13 .before .before .line-e .ensures) in
-    all-lines _ _ numbers opening env (rw (b9 .sound .given .1) at (b9 .before .before .line-v .ensures)) (b6 .notes .ensures) (c .before .before .count .given .1)
+    let b5 = c .before .before .before .before .before in
+    let b8 = b5 .before .before .before in
+    let b12 = b8 .before .before .before .before in
+    let b16 = b12 .before .before .before .before in
+    let b20 = b16 .before .before .before .before in
+    let numbers = rw (b20 .numbers .given .1) at (b20 .before .before .line-s .ensures) in
+    let opening = rw (b16 .opening .given .1) at (b16 .before .before .line-g .ensures) in
+    let env = rw (b12 .env .given .1) at (b12 .before .before .line-e .ensures) in
+    all-lines _ _ numbers opening env (rw (b8 .sound .given .1) at (b8 .before .before .line-v .ensures)) (b5 .notes .ensures) (c .before .count .given .1)
 
 pub read-score-spec : {M : Type 1} → statement M
 read-score-spec =

@@ -1,0 +1,47 @@
+//! Lists of score calls with tempo maps on one session, through `h_score` and by the tally.
+
+use crate::engine::Count;
+use crate::long_scores::{long_mapped, longest_mapped};
+use crate::score::Score;
+use crate::score_calls::{mark_kinds, run_lists, Lists};
+use crate::tried::Tried;
+use crate::waves::WAVES;
+
+/// How many calls are tried where no number is given.
+pub const COUNT: u64 = 1_000_000;
+
+fn mark(score: &Score, number: u32, tried: &mut Tried) {
+    mark_kinds(score, number, tried);
+    let kinds = match number {
+        0 => score.map_kinds(),
+        _ => score.map_faults(number),
+    };
+    for (kind, is) in kinds {
+        if is {
+            tried.mark(kind);
+        }
+    }
+}
+
+/// The longest mapped score, and a long one of each wave.
+fn long_ones() -> Vec<(String, Vec<Score>)> {
+    let longest = (
+        "the longest mapped score".to_string(),
+        vec![longest_mapped()],
+    );
+    let long =
+        WAVES.map(|(place, name, _)| (format!("a long mapped {name}"), vec![long_mapped(place)]));
+    [longest].into_iter().chain(long).collect()
+}
+
+const MAPPED: Lists = Lists {
+    what: "mapped score calls",
+    random: Score::mapped,
+    long: long_ones,
+    mark,
+};
+
+/// Compares `count` calls.
+pub fn run(count: u64) -> Count {
+    run_lists(&MAPPED, count)
+}

@@ -1,0 +1,5 @@
+pub mod Euclid
+pub mod Quotient
+pub mod Lowest
+pub mod Order
+pub mod Same
