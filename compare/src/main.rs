@@ -74,7 +74,7 @@ const USAGE: &str =
        compare voices [COUNT]    COUNT notes of each wave, 10^5 by default
        compare notes [COUNT]     COUNT note calls of every outcome, 10^6 by default
        compare scores [COUNT]    COUNT score calls in lists, 10^6 by default
-       compare mapped-scores [COUNT]  the same with tempo maps
+       compare mapped-scores [COUNT]  COUNT score calls with tempo maps in lists, 1.25 x 10^6 by default
        compare texts [COUNT]     COUNT text scores and damaged ones, 10^6 by default
        compare boards [COUNT]    COUNT operations on a board in lists, 10^7 by default
        compare board-vectors     writes the replay files of crates/board_vectors
