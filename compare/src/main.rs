@@ -10,6 +10,7 @@ mod borders;
 mod cases;
 mod dsp;
 mod engine;
+mod example;
 mod grid;
 mod groove_cases;
 mod groove_vectors;
@@ -26,6 +27,7 @@ mod long_scores;
 mod mapped_bench;
 mod mapped_calls;
 mod mapped_cases;
+mod mapped_grooves;
 mod mapped_kinds;
 mod mapped_random;
 mod note_calls;
@@ -80,6 +82,7 @@ const USAGE: &str =
        compare board-vectors     writes the replay files of crates/board_vectors
        compare cases FIRST COUNT damaged text scores with their answers, for robust/host.c
        compare listing           the listing that 01 asks of the text score on standard input
+       compare example           README's score that slows down, by the original
        compare groove-vectors    writes the replay files of crates/groove_vectors
        compare voice-vectors     writes the replay files of crates/voice_vectors
        compare score-vectors     writes the replay files of crates/score_vectors
@@ -119,6 +122,7 @@ fn main() -> ExitCode {
         ["board-vectors"] => written(board_vectors::run()),
         ["cases", first, count] => streamed(first, count),
         ["listing"] => written(listing()),
+        ["example"] => done(example::run()),
         ["libm"] => done(libm::run(1)),
         ["libm", scale] => scaled(scale, |scale| done(libm::run(scale))),
         ["kernel-vectors"] => written(kernel_vectors::run()),
