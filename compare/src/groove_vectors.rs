@@ -2,6 +2,7 @@
 //! original's answer.
 
 use crate::groove_cases as cases;
+use crate::mapped_grooves;
 use std::fmt::Write as _;
 use std::fs;
 use std::io;
@@ -84,6 +85,9 @@ pub fn run() -> io::Result<()> {
     }
     for case in cases::draws() {
         put(case.line(), draws_answer(&case));
+    }
+    for (case, answer) in mapped_grooves::all() {
+        put(case, answer);
     }
     let folder = Path::new(env!("CARGO_MANIFEST_DIR")).join("../crates/groove_vectors");
     fs::write(folder.join("stdin"), &stdin)?;

@@ -2,16 +2,20 @@
 
 use crate::engine::Count;
 use crate::long_scores::{long_mapped, longest_mapped};
+use crate::reference::NO_CALL;
 use crate::score::Score;
 use crate::score_calls::{mark_kinds, run_lists, Lists};
 use crate::tried::Tried;
 use crate::waves::WAVES;
 
-/// How many calls are tried where no number is given.
-pub const COUNT: u64 = 1_000_000;
+/// How many calls are tried where no number is given: of six in seven a call is made with points.
+pub const COUNT: u64 = 1_250_000;
 
 fn mark(score: &Score, number: u32, tried: &mut Tried) {
     mark_kinds(score, number, tried);
+    if number != NO_CALL && !score.points.is_empty() {
+        tried.mark("made with points");
+    }
     let kinds = match number {
         0 => score.map_kinds(),
         _ => score.map_faults(number),

@@ -2,12 +2,16 @@
 // asked and gives its arguments; the original's answer is appended to it. A line whose arguments
 // lie outside the domain gets no answer.
 ghost use mathlib.Core.Path.{_≡_};
+ghost use Prim.Native.Nat.{_≤_, _<_};
+ghost use lib.ListN.{length};
 ghost use Rattle.dsl.specs.Domain.{numeric, Frames};
+ghost use Rattle.tempo.specs.Map.{points};
 use dsl::Decoded;
 use dsl::SeqNote;
 use dsl::SeqWave;
 use dsl::WaveAt;
 use libc::STDIN_FILENO;
+use tempo::TempoMap;
 
 fn print_place(note: SeqNote, swing: f32, humanize: f32, step_dur: f32, n: usize)
     requires { ⌜ numeric (note .pitch) ⌝ }
@@ -48,23 +52,80 @@ fn answer_groove(line: &[u8], note: SeqNote)
     print_draws(note);
 }
 
-fn note_of(line: &[u8]) -> Decoded {
+// The note of the five fields from `from` on.
+fn note_of(line: &[u8], from: usize) -> Decoded
+    requires { ⌜ from ≤ 1024 ⌝ }
+{
     SeqNote::decode(
-        vectors::u32_field(line, 7),
-        vectors::u32_field(line, 8),
-        vectors::u32_field(line, 9),
-        vectors::u32_field(line, 10),
-        vectors::u32_field(line, 11),
+        vectors::u32_field(line, from),
+        vectors::u32_field(line, from + 1),
+        vectors::u32_field(line, from + 2),
+        vectors::u32_field(line, from + 3),
+        vectors::u32_field(line, from + 4),
     )
 }
 
 fn replay_groove(line: &[u8]) {
-    let Decoded::Note(note) = note_of(line) else {
+    let Decoded::Note(note) = note_of(line, 7) else {
         return;
     };
     let pitch = note.pitch;
     if pitch.is_sized() {
         answer_groove(line, note);
+    }
+}
+
+// The words of the points, from field 12 on.
+fn point_words(line: &[u8]) -> [u32; 256] {
+    let mut out = [0u32; 256];
+    let mut i = 0;
+    while i < 256 {
+        out[i] = vectors::u32_field(line, 12 + i);
+        i += 1;
+    }
+    out
+}
+
+fn map_of(line: &[u8]) -> TempoMap {
+    let count = vectors::length_field(line, 11, 256);
+    let values = point_words(line);
+    harness_map::map_of(&values[..count])
+}
+
+// mapped RATE STEPS-PER-BEAT SWING HUMANIZE N STEP LEN KIND PITCH GAIN, then how many words of tempo points
+// there are, and these: start, end, gain, length, sounded frames.
+fn answer_mapped(line: &[u8], note: SeqNote, map: TempoMap)
+    requires { ⌜ numeric (note .pitch) ⌝ }
+    requires { ⌜ 0 < length (points map) ⌝ }
+{
+    let mapped = groove::groove_note_mapped(
+        note,
+        vectors::f32_field(line, 3),
+        vectors::f32_field(line, 4),
+        map,
+        vectors::u32_field(line, 2),
+        vectors::u32_field(line, 1),
+    );
+    let n = vectors::u32_field(line, 5) as usize;
+    let len = groove::mapped_len(mapped.start, mapped.end, n);
+    vectors::print_u64(mapped.start as u64);
+    vectors::print_u64(mapped.end as u64);
+    vectors::print_f32(mapped.gain);
+    vectors::print_u64(len as u64);
+    vectors::print_u64(groove::sounded_frames(n, mapped.start, len) as u64);
+}
+
+fn replay_mapped(line: &[u8]) {
+    let Decoded::Note(note) = note_of(line, 6) else {
+        return;
+    };
+    let map = map_of(line);
+    if map.len() == 0 {
+        return;
+    }
+    let pitch = note.pitch;
+    if pitch.is_sized() {
+        answer_mapped(line, note, map);
     }
 }
 
@@ -89,6 +150,9 @@ fn replay_line(line: &[u8]) {
     vectors::print_text(line);
     if vectors::is_named(line, b"groove") {
         replay_groove(line);
+    }
+    if vectors::is_named(line, b"mapped") {
+        replay_mapped(line);
     }
     if vectors::is_named(line, b"draws") {
         replay_draws(line);
