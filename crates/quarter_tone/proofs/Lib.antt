@@ -1,0 +1,5 @@
+mod Table
+mod Lookup
+mod Amid
+pub mod Nearest
+pub mod Octaves
