@@ -3,3 +3,4 @@ mod Lookup
 mod Amid
 pub mod Nearest
 pub mod Octaves
+pub mod Bits

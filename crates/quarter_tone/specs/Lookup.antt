@@ -2,9 +2,13 @@
 use Prim.Native.Nat.{ℕ}
 use mathlib.Core.Bool.{cond}
 use lib.Dec.{ltb}
-use Rattle.quarter_tone.specs.Tones.{toneAt}
+use Rattle.quarter_tone.specs.Tones.{patternAt, toneAt}
 use Rattle.quarter_tone.specs.declared.QuarterTone.{QuarterTone}
 use Rattle.quarter_tone.specs.declared.QuarterTone.the-variants.{Pitch, Nothing}
 
 unfoldable pub toneOf : ℕ → QuarterTone
 toneOf q = cond (ltb q 256) (Pitch (toneAt q)) Nothing
+
+-- its f32 bits, "written as a text score's floats"; 0 for nothing
+unfoldable pub toneBits : ℕ → ℕ
+toneBits q = cond (ltb q 256) (patternAt q) 0

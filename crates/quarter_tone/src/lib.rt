@@ -1,7 +1,7 @@
 // Quarter tones by number: the pitches of 24 steps to the octave, from 8.2 Hz at q = 0 to 12.9 kHz at
 // q = 255, with A at 440 Hz at q = 138.
 ghost use mathlib.Core.Path.{_≡_};
-ghost use Rattle.quarter_tone.specs.Lookup.{toneOf};
+ghost use Rattle.quarter_tone.specs.Lookup.{toneOf, toneBits};
 
 // The pitch of a number in hertz, or nothing for a number above 255.
 pub enum QuarterTone {
@@ -276,5 +276,15 @@ pub fn quarter_tone(q: u32) -> QuarterTone
         QuarterTone::Pitch(QUARTER_TONES[q as usize])
     } else {
         QuarterTone::Nothing
+    }
+}
+
+// The f32 bits of entry q, as a text score writes a pitch; 0 for a number above 255.
+pub fn quarter_tone_bits(q: u32) -> u32
+    ensures { λ r. ⌜ r ≡ toneBits q ⌝ }
+{
+    match quarter_tone(q) {
+        QuarterTone::Pitch(pitch) => f32::to_bits(pitch),
+        QuarterTone::Nothing => 0,
     }
 }
