@@ -3,7 +3,7 @@ use Prim.Native.Nat.{ℕ}
 use mathlib.Core.List.{List, []}
 use lib.Ieee.{Float}
 use Rattle.outcome.specs.declared.answer.Refusal.{Refusal}
-use Rattle.outcome.specs.declared.answer.Refusal.the-variants.{Rate, Frames, Tempo, StepsPerBeat, Groove, Knobs, Words, Kind, Steps, Size, Lane, Reach, NoPitch, Lengths, NoteBuffer, StringBuffer, Draws}
+use Rattle.outcome.specs.declared.answer.Refusal.the-variants.{Rate, Frames, Tempo, StepsPerBeat, Groove, Knobs, Words, Kind, Steps, Size, Lane, Reach, NoPitch, Lengths, NoteBuffer, StringBuffer, Draws, Tone}
 use Rattle.outcome.specs.declared.answer.Outcome.{Outcome}
 use Rattle.outcome.specs.declared.answer.Outcome.the-variants.{Played, Refused}
 use Rattle.outcome.specs.declared.answer.Verdict.{Verdict}
@@ -28,6 +28,7 @@ numberOf Lengths = 14
 numberOf NoteBuffer = 20
 numberOf StringBuffer = 21
 numberOf Draws = 22
+numberOf Tone = 30
 
 -- a refusal's number, or an accepted call's draws and frames
 pub data Result : Type 0 where

@@ -20,6 +20,7 @@ pub enum Refusal {
     NoteBuffer,
     StringBuffer,
     Draws,
+    Tone,
 }
 
 impl Refusal {
@@ -44,6 +45,7 @@ impl Refusal {
             Refusal::NoteBuffer => 20,
             Refusal::StringBuffer => 21,
             Refusal::Draws => 22,
+            Refusal::Tone => 30,
         }
     }
 }

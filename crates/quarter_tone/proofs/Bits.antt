@@ -11,7 +11,7 @@ use lib.Ieee.Bits.{toBits-ofBits}
 use Rattle.quarter_tone.specs.Tones.{patternAt, toneAt}
 use Rattle.quarter_tone.specs.Rule.{unitsOf}
 use Rattle.quarter_tone.specs.Lookup.{toneOf, toneBits}
-use Rattle.quarter_tone.specs.declared.QuarterTone.the-variants.{Pitch, Nothing}
+use Rattle.quarter_tone.specs.declared.QuarterTone.the-variants.{Tone, Nothing}
 use Rattle.quarter_tone.proofs.Amid.{amid-value}
 use Rattle.quarter_tone.proofs.Nearest.{amid-tone}
 
@@ -28,12 +28,12 @@ tone-pattern : (q : ℕ) → q < 256 → toBits binary32 (toneAt q) ≡ patternA
 tone-pattern q h = toBits-ofBits binary32 (patternAt q) (omega (arith, amid-tone q h .field .1)) (tone-number q h)
 
 -- what was found is an entry
-module _ (q : ℕ) (x : Float) (found : Pitch x ≡ toneOf q) where
+module _ (q : ℕ) (x : Float) (found : Tone x ≡ toneOf q) where
   pub found-entry : (q < 256) × (x ≡ toneAt q)
   unfolding toneOf
   found-entry = go (ltb q 256) refl found
     where
-      go : (b : Bool) → ltb q 256 ≡ b → Pitch x ≡ cond b (Pitch (toneAt q)) Nothing → (q < 256) × (x ≡ toneAt q)
+      go : (b : Bool) → ltb q 256 ≡ b → Tone x ≡ cond b (Tone (toneAt q)) Nothing → (q < 256) × (x ≡ toneAt q)
       go true e f = (ltb-true q 256 e, cc)
       go false e f = let z : _≡_ {A = ℕ} 0 1 = cc in absurd (omega arith)
 
@@ -48,6 +48,6 @@ pub none-found : (q : ℕ) → Nothing ≡ toneOf q → 0 ≡ toneBits q
 unfolding toneOf toneBits
 none-found q = go (ltb q 256)
   where
-    go : (b : Bool) → Nothing ≡ cond b (Pitch (toneAt q)) Nothing → 0 ≡ cond b (patternAt q) 0
+    go : (b : Bool) → Nothing ≡ cond b (Tone (toneAt q)) Nothing → 0 ≡ cond b (patternAt q) 0
     go true e = cc
     go false e = refl

@@ -4,10 +4,10 @@ use mathlib.Core.Bool.{cond}
 use lib.Dec.{ltb}
 use Rattle.quarter_tone.specs.Tones.{patternAt, toneAt}
 use Rattle.quarter_tone.specs.declared.QuarterTone.{QuarterTone}
-use Rattle.quarter_tone.specs.declared.QuarterTone.the-variants.{Pitch, Nothing}
+use Rattle.quarter_tone.specs.declared.QuarterTone.the-variants.{Tone, Nothing}
 
 unfoldable pub toneOf : ℕ → QuarterTone
-toneOf q = cond (ltb q 256) (Pitch (toneAt q)) Nothing
+toneOf q = cond (ltb q 256) (Tone (toneAt q)) Nothing
 
 -- its f32 bits, "written as a text score's floats"; 0 for nothing
 unfoldable pub toneBits : ℕ → ℕ

@@ -3,9 +3,9 @@
 ghost use mathlib.Core.Path.{_≡_};
 ghost use Rattle.quarter_tone.specs.Lookup.{toneOf, toneBits};
 
-// The pitch of a number in hertz, or nothing for a number above 255.
+// The quarter tone of a number in hertz, or nothing for a number above 255.
 pub enum QuarterTone {
-    Pitch(f32),
+    Tone(f32),
     Nothing,
 }
 
@@ -273,7 +273,7 @@ pub fn quarter_tone(q: u32) -> QuarterTone
     ensures { λ r. ⌜ r ≡ toneOf q ⌝ }
 {
     if q < 256 {
-        QuarterTone::Pitch(QUARTER_TONES[q as usize])
+        QuarterTone::Tone(QUARTER_TONES[q as usize])
     } else {
         QuarterTone::Nothing
     }
@@ -284,7 +284,7 @@ pub fn quarter_tone_bits(q: u32) -> u32
     ensures { λ r. ⌜ r ≡ toneBits q ⌝ }
 {
     match quarter_tone(q) {
-        QuarterTone::Pitch(pitch) => f32::to_bits(pitch),
+        QuarterTone::Tone(hertz) => f32::to_bits(hertz),
         QuarterTone::Nothing => 0,
     }
 }

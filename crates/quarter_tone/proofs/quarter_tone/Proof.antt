@@ -6,7 +6,7 @@ use Prim.Native.Nat.{_≤_, _<_}
 use lib.Ieee.{binary32, ofBits}
 use Rattle.quarter_tone.specs.Tones.{patterns}
 use Rattle.quarter_tone.specs.Lookup.{toneOf}
-use Rattle.quarter_tone.specs.declared.QuarterTone.the-variants.{Pitch}
+use Rattle.quarter_tone.specs.declared.QuarterTone.the-variants.{Tone}
 use Rattle.quarter_tone.proofs.Nearest.{has-entry}
 use Rattle.quarter_tone.proofs.Lookup.{looked-up}
 use Rattle.quarter_tone.proofs.quarter_tone.Statement.{statement}
@@ -16,7 +16,7 @@ returns : tie.Need-returns
 unfolding toneOf patterns
 returns c =
     let h : c .before .args .q < 256 = c .if1 .taken in
-    rw (lt-ltb _ _ h) (ap Pitch (looked-up (ofBits binary32) patterns (c .before .args .q) 0 _ (has-entry _ h)))
+    rw (lt-ltb _ _ h) (ap Tone (looked-up (ofBits binary32) patterns (c .before .args .q) 0 _ (has-entry _ h)))
 
 returns-2 : tie.Need-returns-2
 unfolding toneOf

@@ -6,10 +6,10 @@ use Rattle.quarter_tone.proofs.quarter_tone_bits.Statement.{statement}
 use Rattle.quarter_tone.proofs.quarter_tone_bits.Tie as tie
 
 float-to-bits-result : tie.Need-float-to-bits-result
-float-to-bits-result c = found-number _ _ (sym (c .before .pitch .given .1) ∙ c .before .before .before .quarter-tone .ensures)
+float-to-bits-result c = found-number _ _ (sym (c .before .hertz .given .1) ∙ c .before .before .before .quarter-tone .ensures)
 
 returns : tie.Need-returns
-returns c = found-bits _ _ (sym (c .before .pitch .given .1) ∙ c .before .before .before .quarter-tone .ensures)
+returns c = found-bits _ _ (sym (c .before .hertz .given .1) ∙ c .before .before .before .quarter-tone .ensures)
 
 returns-2 : tie.Need-returns-2
 returns-2 c = none-found _ (sym (c .enum-told .given .1) ∙ c .before .before .quarter-tone .ensures)
