@@ -45,7 +45,8 @@ enum tono_refusal {
     TONO_REFUSED_NOTE_BUFFER = 20,
     TONO_REFUSED_STRING_BUFFER = 21,
     TONO_REFUSED_DRAWS = 22,
-    TONO_REFUSED_REPLY = 23
+    TONO_REFUSED_REPLY = 23,
+    TONO_REFUSED_TONE = 30
 };
 
 /* What a refusal's number means, in one line; NULL for a number that is none. */
@@ -59,7 +60,7 @@ static inline const char *tono_reason(int number)
     case TONO_REFUSED_GROOVE: return "swing or humanize is not from 0 to 1";
     case TONO_REFUSED_KNOBS: return "a knob, the duty or an envelope number is not sized";
     case TONO_REFUSED_WORDS: return "the number of note words is not a multiple of five";
-    case TONO_REFUSED_KIND: return "a note's kind is neither 0 (a number) nor 1 (a curve)";
+    case TONO_REFUSED_KIND: return "a note's kind is none of 0 (a number), 1 (a curve) and 2 (a quarter tone)";
     case TONO_REFUSED_PLACE: return "a note's step or length is above 1,048,575";
     case TONO_REFUSED_SIZE: return "a gain or a pitch is not sized";
     case TONO_REFUSED_LANE: return "a value of the lane is not sized";
@@ -72,6 +73,7 @@ static inline const char *tono_reason(int number)
     case TONO_REFUSED_STRING_BUFFER: return "the string buffer is shorter than 9,600 values";
     case TONO_REFUSED_DRAWS: return "the draw count would pass 2^64 - 1";
     case TONO_REFUSED_REPLY: return "the reply buffer is shorter than the listing";
+    case TONO_REFUSED_TONE: return "a quarter tone's number is above 255";
     default: return NULL;
     }
 }

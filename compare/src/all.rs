@@ -1,7 +1,9 @@
 //! Every comparison in one run, with one table at the end.
 
 use crate::engine::Count;
-use crate::{boards, helpers, kernels, note_calls, progress, random, score_calls, texts, voices};
+use crate::{
+    boards, helpers, kernels, note_calls, progress, random, score_calls, texts, tones, voices,
+};
 use std::process::{Command, Stdio};
 
 const DAMAGED: &str = concat!(env!("CARGO_MANIFEST_DIR"), "/robust/run");
@@ -11,11 +13,12 @@ const TEXTS: u64 = 1_000_000;
 /// One row of the table: what is compared, with what, and the run of one case in a number.
 type Part = (&'static str, &'static str, fn(u64) -> Count);
 
-const PARTS: [Part; 8] = [
+const PARTS: [Part; 9] = [
     ("float helpers", "Rust's operations", helpers::run),
     ("kernels", "det.rs", |scale| {
         kernels::run_all(kernels::COUNT.div_ceil(scale), scale)
     }),
+    ("quarter tones", "the rule in whole numbers", tones::run),
     ("notes of each wave", "seq_note_signal", |scale| {
         voices::run(voices::COUNT.div_ceil(scale))
     }),

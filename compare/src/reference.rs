@@ -2,6 +2,7 @@
 //! groove and mix for the sound. Nothing here comes from the library. Words in quotes are 01's.
 
 use crate::random::{draw, state_at};
+use crate::tones::quarter_tone;
 use crate::waves::{envelope, voice_of, wave_at};
 use std::ops::Range;
 use tono::dsl::{SeqNote, SeqWave, Value};
@@ -227,17 +228,19 @@ fn score_refusal(call: &ScoreCall) -> Option<u32> {
 }
 
 /// "then note by note: 8 kind above 1; 9 step or len; 10 gain or constant pitch not sized; 12 offset +
-/// length (module 4's, for skipped notes too) passes the lane's end"
+/// length (module 4's, for skipped notes too) passes the lane's end"; "It refuses a q above 255 with 30,
+/// in the place of 12 for that note, and 8 now means a kind above 2."
 fn notes_refusal(call: &ScoreCall) -> Option<u32> {
     let mut notes = call.words.chunks_exact(5);
     notes.find_map(|w| {
-        let curve = w[2] == 1;
-        let pitched = curve || is_sized(f32::from_bits(w[3]));
+        let (curve, tone) = (w[2] == 1, w[2] == 2);
+        let pitched = curve || tone || is_sized(f32::from_bits(w[3]));
         let end = w[3] as usize + call.length(w[1]);
         first(&[
-            (8, w[2] > 1),
+            (8, w[2] > 2),
             (9, w[0].max(w[1]) > 1_048_575),
             (10, !is_sized(f32::from_bits(w[4])) || !pitched),
+            (30, tone && quarter_tone(w[3]).is_none()),
             (12, curve && end > call.lane.len()),
         ])
     })
@@ -273,6 +276,7 @@ impl ScoreCall<'_> {
         let offset = w[3] as usize;
         let pitch = match w[2] {
             0 => Value::Const(f32::from_bits(w[3])),
+            2 => Value::Const(quarter_tone(w[3]).expect("30 is judged before")),
             _ => Value::Modulated(self.lane[offset..offset + self.length(w[1])].to_vec()),
         };
         SeqNote {

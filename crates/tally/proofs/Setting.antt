@@ -13,16 +13,20 @@ use Rattle.ieee.specs.Numbers.{c0}
 use Rattle.laws.specs.Listed.{listed}
 use Rattle.laws.proofs.Listed.{from-map, listed-same}
 use Rattle.rng.specs.SplitMix64.{stateAfter}
-use Rattle.dsl.specs.Note.{noteWith, noteOf, ofNote}
+use Rattle.quarter_tone.specs.Lookup.{toneOf}
+use Rattle.quarter_tone.specs.declared.QuarterTone.{QuarterTone}
+use Rattle.quarter_tone.specs.declared.QuarterTone.the-variants.{Tone, Nothing}
+use Rattle.dsl.specs.Note.{noteWith, tunedOf, noteOf, ofWords}
 use Rattle.dsl.specs.Pitch.{pitchAt, passes}
 use Rattle.dsl.specs.Sized.{allSized, pitchSized}
 use Rattle.dsl.specs.declared.pitch.Pitch.{Pitch}
 use Rattle.dsl.specs.declared.pitch.Pitch.the-variants.{Const, Curve}
 use Rattle.dsl.specs.declared.wave.SeqWave.{SeqWave}
 use Rattle.dsl.specs.declared.note.SeqNote.{SeqNote}
+use Rattle.dsl.specs.declared.note.Untuned.{Untuned}
 use Rattle.dsl.specs.declared.note.Decoded.{Decoded}
-use Rattle.dsl.specs.declared.note.Decoded.the-variants.{Note, NoKind}
-use Rattle.dsl.proofs.Cases.{NoNote, by-kind}
+use Rattle.dsl.specs.declared.note.Decoded.the-variants.{Note, NoTone, NoKind}
+use Rattle.dsl.proofs.Cases.{NoNote, by-words, by-kind}
 use Rattle.groove.specs.Humanize.{seedOf, humanizeDraws}
 use Rattle.groove.specs.Timing.{humanDelay, grooveOf}
 use Rattle.groove.specs.Length.{lengthOf, soundedOf}
@@ -30,6 +34,7 @@ use Rattle.counts.specs.Draws.{drawsOf}
 use Rattle.outcome.specs.Answer.{accepted, unless, reported}
 use Rattle.outcome.specs.First.{Test, _⇒_, firstOf, orElse, firstRefusal}
 use Rattle.outcome.specs.declared.answer.Refusal.the-variants.{Kind, Steps, Size, Reach, Words, Lane, NoteBuffer, StringBuffer, Draws}
+use Rattle.outcome.specs.declared.answer.Refusal.the-variants as refusals
 use Rattle.outcome.specs.declared.answer.Verdict.{Verdict}
 use Rattle.outcome.specs.declared.answer.Verdict.the-variants.{Fine, Refuse}
 use Rattle.outcome.proofs.First.{first-append}
@@ -102,24 +107,39 @@ unfolding grooveOf humanDelay humanizeDraws seedOf
 start-by step len p gain gain′ swing humanize dur true e = rw e
 start-by step len p gain gain′ swing humanize dur false e = rw e
 
--- a reading of notes that does not see the gain
-abbrev Free : {A : Type 0} → (Decoded → A) → Type 0
-Free read = (step len : ℕ) (p : Pitch) (gain gain′ : Float) → read (Note (note step len p gain)) ≡ read (Note (note step len p gain′))
+abbrev untuned : ℕ → ℕ → Float → Untuned
+untuned step len gain = record { step = step; len = len; gain = gain }
+
+-- a reading of words that does not see the gain
+record Free {A : Type 0} (read : Decoded → A) : Type 0 where
+  pub notes : (step len : ℕ) (p : Pitch) (gain gain′ : Float) → read (Note (note step len p gain)) ≡ read (Note (note step len p gain′))
+  pub others : (step len : ℕ) (gain gain′ : Float) → read (NoTone (untuned step len gain)) ≡ read (NoTone (untuned step len gain′))
 
 -- it does not see the word that the gain is read from
 word-free : {A : Type 0} (read : Decoded → A) → Free read → (step len kind p g g′ : ℕ) → read (noteOf step len kind p g) ≡ read (noteOf step len kind p g′)
 unfolding noteOf
-word-free {A} read free step len kind p g g′ = by (eqb kind 0) (eqb kind 1)
+word-free {A} read free step len kind p g g′ = by (eqb kind 0) (eqb kind 1) (eqb kind 2)
   where
-    by : (a b : Bool) → read (cond a (noteWith step len (Const (ofBits binary32 p)) g) (cond b (noteWith step len (Curve p) g) NoKind))
-        ≡ read (cond a (noteWith step len (Const (ofBits binary32 p)) g′) (cond b (noteWith step len (Curve p) g′) NoKind))
-    by true b = free step len (Const (ofBits binary32 p)) _ _
-    by false true = free step len (Curve p) _ _
-    by false false = refl
+    tuned : (t : QuarterTone) → read (tunedOf step len t g) ≡ read (tunedOf step len t g′)
+    tuned (Tone x) = free .notes step len (Const x) _ _
+    tuned Nothing = free .others step len _ _
+
+    by : (a b c : Bool) → read (cond a (noteWith step len (Const (ofBits binary32 p)) g) (cond b (noteWith step len (Curve p) g) (cond c (tunedOf step len (toneOf p) g) NoKind)))
+        ≡ read (cond a (noteWith step len (Const (ofBits binary32 p)) g′) (cond b (noteWith step len (Curve p) g′) (cond c (tunedOf step len (toneOf p) g′) NoKind)))
+    by true b c = free .notes step len (Const (ofBits binary32 p)) _ _
+    by false true c = free .notes step len (Curve p) _ _
+    by false false true = tuned (toneOf p)
+    by false false false = refl
 
 sounded-free : (s : Score) → Free (soundedIn s)
 unfolding placeOf
-sounded-free s step len p gain gain′ = ap (λ (start : ℕ). soundedOf (s .n) start (lengthOf len (durOf (s .seq .timing)) (s .n))) (start-by step len p gain gain′ _ _ _ _ refl)
+sounded-free s = record {
+  notes = λ step len p gain gain′. ap (λ (start : ℕ). soundedOf (s .n) start (lengthOf len (durOf (s .seq .timing)) (s .n))) (start-by step len p gain gain′ _ _ _ _ refl);
+  others = λ step len gain gain′. refl;
+}
+
+first-free : (s : Score) → Free (firstIn s)
+first-free s = record { notes = λ step len p gain gain′. refl; others = λ step len gain gain′. refl }
 
 -- ---- a note's refusal, but for its gain
 abbrev bareTests : Score → SeqNote → List Test
@@ -130,18 +150,20 @@ bareTests s m =
     ∷ (passes (m .pitch) (length (s .lane)) (place s m .len) ⇒ Reach)
     ∷ []
 
+abbrev bareUntuned : Untuned → List Test
+bareUntuned u = (ltb 1048575 (u .step) ⇒ Steps) ∷ (ltb 1048575 (u .len) ⇒ Steps) ∷ (true ⇒ refusals.Tone) ∷ []
+
 bareRefusal : Score → Decoded → Verdict
-bareRefusal s = ofNote (Refuse Kind) (λ m. firstOf (bareTests s m))
+bareRefusal s = ofWords (Refuse Kind) (λ u. firstOf (bareUntuned u)) (λ m. firstOf (bareTests s m))
 
 -- where the gain is sized it does not refuse
 gain-passes : (s : Score) (e : Decoded) → gainSized e ≡ true → noteRefusal s e ≡ bareRefusal s e
 unfolding noteRefusal bareRefusal firstOf
-gain-passes s = by-kind (λ e. gainSized e ≡ true → noteRefusal s e ≡ bareRefusal s e) (λ m sized. rw sized)
-    (λ e none sized. none .other (Refuse Kind) (λ m. firstOf (noteTests s m)) ∙ sym (none .other (Refuse Kind) (λ m. firstOf (bareTests s m))))
+gain-passes s = by-words (λ e. gainSized e ≡ true → noteRefusal s e ≡ bareRefusal s e) (λ m sized. rw sized) (λ u sized. rw sized) (λ sized. refl)
 
 bare-free : (s : Score) → Free (bareRefusal s)
 unfolding bareRefusal placeOf
-bare-free s step len p gain gain′ = refl
+bare-free s = record { notes = λ step len p gain gain′. refl; others = λ step len gain gain′. refl }
 
 module _ (s s′ : Score) (r : Reset s s′) where
   -- note k of s is that of s′ but for its gain
@@ -168,10 +190,10 @@ module _ (s s′ : Score) (r : Reset s s′) where
 
   bare-same : (e : Decoded) → bareRefusal s e ≡ bareRefusal s′ e
   unfolding bareRefusal
-  bare-same = by-kind (λ e. bareRefusal s e ≡ bareRefusal s′ e)
+  bare-same = by-words (λ e. bareRefusal s e ≡ bareRefusal s′ e)
       (λ m j. firstOf ((ltb 1048575 (m .step) ⇒ Steps) ∷ (ltb 1048575 (m .len) ⇒ Steps) ∷ (not (pitchSized (m .pitch)) ⇒ Size)
       ∷ (passes (m .pitch) (length (r .lane j)) (placeOf (r .timing j) (r .frames j) m .len) ⇒ Reach) ∷ []))
-      (λ e none. none .other (Refuse Kind) (λ m. firstOf (bareTests s m)) ∙ sym (none .other (Refuse Kind) (λ m. firstOf (bareTests s′ m))))
+      (λ u. refl) refl
 
   count-same : noteCount s ≡ noteCount s′
   count-same = ap (λ (n : ℕ). n / 5) (r .words)
@@ -183,7 +205,7 @@ module _ (s s′ : Score) (r : Reset s s′) where
     rate = λ j. r .timing j .rate;
     notes = count-same;
     sounded = reset-read (soundedIn s) (soundedIn s′) (sounded-free s) sounded-same;
-    first = λ k h some. reset-read (firstIn s) (firstIn s′) (λ step len p gain gain′. refl) first-same k h;
+    first = λ k h some. reset-read (firstIn s) (firstIn s′) (first-free s) first-same k h;
   }
 
   -- ---- they are refused alike
