@@ -34,10 +34,10 @@ fn values_verdict(note: SeqNote) -> Verdict
 }
 
 // 9, 10 and 30, of a note whose number has no quarter tone.
-fn untuned_verdict(note: Untuned) -> Verdict
-    ensures { λ r. ⌜ r ≡ firstAfter Fine (untunedTests note) ⌝ }
+fn untuned_verdict(untuned: Untuned) -> Verdict
+    ensures { λ r. ⌜ r ≡ firstAfter Fine (untunedTests untuned) ⌝ }
 {
-    let found = words_verdict(note.step, note.len, note.gain);
+    let found = words_verdict(untuned.step, untuned.len, untuned.gain);
     or_else(found, true, Refusal::Tone)
 }
 
@@ -66,7 +66,7 @@ fn note_verdict(seq: Seq, notes: &[u32], lane: &[f32], lent: Lent, note: Decoded
 {
     match note {
         Decoded::Note(note) => pitched_verdict(seq, notes, lane, lent, note),
-        Decoded::NoTone(note) => untuned_verdict(note),
+        Decoded::NoTone(untuned) => untuned_verdict(untuned),
         Decoded::NoKind => Verdict::Refuse(Refusal::Kind),
     }
 }

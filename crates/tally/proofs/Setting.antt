@@ -3,45 +3,40 @@
 use Prim.Native.Nat.{ℕ, zero, suc, _+_, _-_, _*_, _/_, _%_, _^_, _≤_, _<_}
 use mathlib.Core.Path.{_≡_, refl, sym, ap, _∙_}
 use mathlib.Core.List.{List, [], _∷_, _++_, map}
-use mathlib.Core.Bool.{Bool, true, false, cond, not}
+use mathlib.Core.Bool.{Bool, true, false, not}
 use native.Mathlib.Omega.{arith}
 use native.Mathlib.Nat.{add-zero, le-refl}
 use lib.ListN.{length, getD}
 use lib.Dec.{ltb, eqb}
-use lib.Ieee.{Float, binary32, ofBits, lt}
+use lib.Ieee.{Float, lt}
 use Rattle.ieee.specs.Numbers.{c0}
 use Rattle.laws.specs.Listed.{listed}
 use Rattle.laws.proofs.Listed.{from-map, listed-same}
 use Rattle.rng.specs.SplitMix64.{stateAfter}
-use Rattle.quarter_tone.specs.Lookup.{toneOf}
-use Rattle.quarter_tone.specs.declared.QuarterTone.{QuarterTone}
-use Rattle.quarter_tone.specs.declared.QuarterTone.the-variants.{Tone, Nothing}
-use Rattle.dsl.specs.Note.{noteWith, tunedOf, noteOf, ofWords}
+use Rattle.dsl.specs.Note.{noteOf, ofWords}
 use Rattle.dsl.specs.Pitch.{pitchAt, passes}
 use Rattle.dsl.specs.Sized.{allSized, pitchSized}
 use Rattle.dsl.specs.declared.pitch.Pitch.{Pitch}
-use Rattle.dsl.specs.declared.pitch.Pitch.the-variants.{Const, Curve}
 use Rattle.dsl.specs.declared.wave.SeqWave.{SeqWave}
 use Rattle.dsl.specs.declared.note.SeqNote.{SeqNote}
 use Rattle.dsl.specs.declared.note.Untuned.{Untuned}
 use Rattle.dsl.specs.declared.note.Decoded.{Decoded}
-use Rattle.dsl.specs.declared.note.Decoded.the-variants.{Note, NoTone, NoKind}
 use Rattle.dsl.proofs.Cases.{NoNote, by-words, by-kind}
+use Rattle.dsl.proofs.Gains.{note, Free, word-free}
 use Rattle.groove.specs.Humanize.{seedOf, humanizeDraws}
 use Rattle.groove.specs.Timing.{humanDelay, grooveOf}
 use Rattle.groove.specs.Length.{lengthOf, soundedOf}
 use Rattle.counts.specs.Draws.{drawsOf}
 use Rattle.outcome.specs.Answer.{accepted, unless, reported}
 use Rattle.outcome.specs.First.{Test, _⇒_, firstOf, orElse, firstRefusal}
-use Rattle.outcome.specs.declared.answer.Refusal.the-variants.{Kind, Steps, Size, Reach, Words, Lane, NoteBuffer, StringBuffer, Draws}
-use Rattle.outcome.specs.declared.answer.Refusal.the-variants as refusals
+use Rattle.outcome.specs.declared.answer.Refusal.the-variants.{Kind, Steps, Size, Reach, Tone, Words, Lane, NoteBuffer, StringBuffer, Draws}
 use Rattle.outcome.specs.declared.answer.Verdict.{Verdict}
 use Rattle.outcome.specs.declared.answer.Verdict.the-variants.{Fine, Refuse}
 use Rattle.outcome.proofs.First.{first-append}
 use Rattle.session.specs.Opened.{sessionAt}
 use Rattle.session.specs.declared.Session.{Session}
 use Rattle.score.specs.Score.{Score, rateIn, waveIn, noteAt, noteIn, noteCount, notesIn, durOf, placeOf, place, skips, pitch, drawsIn, noteDraws, drawsBefore, scoreDraws}
-use Rattle.score.specs.Refusals.{numberTests, voiceTests, lentTests, listTests, callTests, noteTests, noteRefusal, refusal, refusalAt}
+use Rattle.score.specs.Refusals.{numberTests, voiceTests, lentTests, listTests, callTests, noteRefusal, refusal, refusalAt}
 use Rattle.score.proofs.Notes.{none-sounded, some-sounded, draws-all}
 use Rattle.score_contract.specs.ScoreCall.{Event, scoreIn}
 use Rattle.tally.specs.Tally.{allTaken, tallied, newDraw, tally}
@@ -97,39 +92,12 @@ pub same-draws : (s s′ : Score) → Alike s s′ → scoreDraws s ≡ scoreDra
 same-draws s s′ alike = draws-all s ∙ before-same s s′ alike (noteCount s) (le-refl (noteCount s)) ∙ ap (drawsBefore s′) (alike .notes) ∙ sym (draws-all s′)
 
 -- ---- scores that differ in knobs, duty, envelope and gains
-abbrev note : ℕ → ℕ → Pitch → Float → SeqNote
-note step len p gain = record { step = step; len = len; pitch = p; gain = gain }
-
 -- a note's gain does not move its start
 start-by : (step len : ℕ) (p : Pitch) (gain gain′ swing humanize dur : Float) (b : Bool) → lt c0 humanize ≡ b
     → grooveOf (note step len p gain) swing humanize dur .start ≡ grooveOf (note step len p gain′) swing humanize dur .start
 unfolding grooveOf humanDelay humanizeDraws seedOf
 start-by step len p gain gain′ swing humanize dur true e = rw e
 start-by step len p gain gain′ swing humanize dur false e = rw e
-
-abbrev untuned : ℕ → ℕ → Float → Untuned
-untuned step len gain = record { step = step; len = len; gain = gain }
-
--- a reading of words that does not see the gain
-record Free {A : Type 0} (read : Decoded → A) : Type 0 where
-  pub notes : (step len : ℕ) (p : Pitch) (gain gain′ : Float) → read (Note (note step len p gain)) ≡ read (Note (note step len p gain′))
-  pub others : (step len : ℕ) (gain gain′ : Float) → read (NoTone (untuned step len gain)) ≡ read (NoTone (untuned step len gain′))
-
--- it does not see the word that the gain is read from
-word-free : {A : Type 0} (read : Decoded → A) → Free read → (step len kind p g g′ : ℕ) → read (noteOf step len kind p g) ≡ read (noteOf step len kind p g′)
-unfolding noteOf
-word-free {A} read free step len kind p g g′ = by (eqb kind 0) (eqb kind 1) (eqb kind 2)
-  where
-    tuned : (t : QuarterTone) → read (tunedOf step len t g) ≡ read (tunedOf step len t g′)
-    tuned (Tone x) = free .notes step len (Const x) _ _
-    tuned Nothing = free .others step len _ _
-
-    by : (a b c : Bool) → read (cond a (noteWith step len (Const (ofBits binary32 p)) g) (cond b (noteWith step len (Curve p) g) (cond c (tunedOf step len (toneOf p) g) NoKind)))
-        ≡ read (cond a (noteWith step len (Const (ofBits binary32 p)) g′) (cond b (noteWith step len (Curve p) g′) (cond c (tunedOf step len (toneOf p) g′) NoKind)))
-    by true b c = free .notes step len (Const (ofBits binary32 p)) _ _
-    by false true c = free .notes step len (Curve p) _ _
-    by false false true = tuned (toneOf p)
-    by false false false = refl
 
 sounded-free : (s : Score) → Free (soundedIn s)
 unfolding placeOf
@@ -151,7 +119,7 @@ bareTests s m =
     ∷ []
 
 abbrev bareUntuned : Untuned → List Test
-bareUntuned u = (ltb 1048575 (u .step) ⇒ Steps) ∷ (ltb 1048575 (u .len) ⇒ Steps) ∷ (true ⇒ refusals.Tone) ∷ []
+bareUntuned u = (ltb 1048575 (u .step) ⇒ Steps) ∷ (ltb 1048575 (u .len) ⇒ Steps) ∷ (true ⇒ Tone) ∷ []
 
 bareRefusal : Score → Decoded → Verdict
 bareRefusal s = ofWords (Refuse Kind) (λ u. firstOf (bareUntuned u)) (λ m. firstOf (bareTests s m))

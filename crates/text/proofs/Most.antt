@@ -1,7 +1,7 @@
 -- Use where a reply is to be long enough for every listing: `listing-most`. A listing is longest where all 2,048 frames are printed, each with 16 bytes at most, after a G line
 -- of 40 bytes at most. Assumes nothing.
 use Prim.Native.Nat.{ℕ, zero, suc, _+_, _-_, _^_, _≤_, _<_}
-use mathlib.Core.Path.{_≡_, refl, sym, ap, _∙_}
+use mathlib.Core.Path.{_≡_, refl, ap, _∙_}
 use mathlib.Core.List.{List, [], _∷_, _++_, map}
 use mathlib.Core.Bool.{Bool, true, false, cond}
 use native.Mathlib.Omega.{arith}
@@ -15,7 +15,7 @@ use Rattle.dsl.proofs.Cases.{by-words, by-kind}
 use Rattle.mix.proofs.Mixing.{silence-length, mixed-length}
 use Rattle.outcome.specs.Answer.{Result, accepted, unless, numberOf, framesIn}
 use Rattle.outcome.specs.declared.answer.Refusal.{Refusal}
-use Rattle.outcome.specs.declared.answer.Refusal.the-variants.{Kind, Draws}
+use Rattle.outcome.specs.declared.answer.Refusal.the-variants.{Draws}
 use Rattle.outcome.specs.declared.answer.Verdict.{Verdict}
 use Rattle.outcome.specs.declared.answer.Verdict.the-variants.{Fine, Refuse}
 use Rattle.outcome.specs.First.{Test, _⇒_, firstOf, orElse, firstRefusal}
