@@ -186,15 +186,14 @@ fn untuned() -> Vec<Score> {
     scores
 }
 
-/// Every quarter tone, sixteen a score, on waves that read the pitch, draw by it or groove by it.
+/// Every quarter tone, twelve a score, on waves that read the pitch, draw by it or groove by it.
 fn tuned() -> Vec<Score> {
-    let waves = [0, 3, 6, 7];
-    let scores = (0..TONES / 16).map(|row| {
+    let waves = [0, 3, 6, 7].iter().cycle();
+    let tones: Vec<u32> = (0..TONES).collect();
+    let scores = tones.chunks(12).zip(waves).map(|(row, &wave)| {
         with(|s| {
-            let notes = (0..16).map(|i| tone(i % 4, 2, 16 * row + i, 0.3));
-            s.words = notes.flatten().collect();
-            s.wave = waves[row as usize % waves.len()];
-            s.humanize = 1.0;
+            s.words = row.iter().flat_map(|&q| tone(q % 4, 2, q, 0.3)).collect();
+            (s.wave, s.humanize) = (wave, 1.0);
         })
     });
     scores.collect()
