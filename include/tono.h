@@ -46,6 +46,7 @@ enum tono_refusal {
     TONO_REFUSED_STRING_BUFFER = 21,
     TONO_REFUSED_DRAWS = 22,
     TONO_REFUSED_REPLY = 23,
+    TONO_REFUSED_TONE = 30,
     TONO_REFUSED_TEMPO_POINTS = 31,
     TONO_REFUSED_TEMPO_ORDER = 32
 };
@@ -61,7 +62,7 @@ static inline const char *tono_reason(int number)
     case TONO_REFUSED_GROOVE: return "swing or humanize is not from 0 to 1";
     case TONO_REFUSED_KNOBS: return "a knob, the duty or an envelope number is not sized";
     case TONO_REFUSED_WORDS: return "the number of note words is not a multiple of five";
-    case TONO_REFUSED_KIND: return "a note's kind is neither 0 (a number) nor 1 (a curve)";
+    case TONO_REFUSED_KIND: return "a note's kind is none of 0 (a number), 1 (a curve) and 2 (a quarter tone)";
     case TONO_REFUSED_PLACE: return "a note's step or length is above 1,048,575";
     case TONO_REFUSED_SIZE: return "a gain or a pitch is not sized";
     case TONO_REFUSED_LANE: return "a value of the lane is not sized";
@@ -74,6 +75,7 @@ static inline const char *tono_reason(int number)
     case TONO_REFUSED_STRING_BUFFER: return "the string buffer is shorter than 9,600 values";
     case TONO_REFUSED_DRAWS: return "the draw count would pass 2^64 - 1";
     case TONO_REFUSED_REPLY: return "the reply buffer is shorter than the listing";
+    case TONO_REFUSED_TONE: return "a quarter tone's number is above 255";
     case TONO_REFUSED_TEMPO_POINTS: return "there are more than 64 tempo points, or one has a zero denominator, a numerator beyond 1,000,000,000 or a tempo not from 1 to 1,000";
     case TONO_REFUSED_TEMPO_ORDER: return "the first tempo point is not at beat 0, or a point's beat is not after the one before it";
     default: return NULL;
@@ -118,7 +120,7 @@ static inline const char *tono_reason(int number)
  * The call keeps no state: a score gives the same listing every time. Threads may call it at the same time,
  * each with its own buffers. It allocates nothing, makes no system call and always returns.
  *
- * It uses up to 96,824 bytes of stack, measured on every wave (compare/robust/stack.c). Give a thread that
+ * It uses up to 102,968 bytes of stack, measured on every wave (compare/robust/stack.c). Give a thread that
  * calls it 128 KiB or more beyond its own needs. */
 int64_t tono_play(const uint8_t *score, size_t score_len, uint8_t *reply, size_t reply_len);
 

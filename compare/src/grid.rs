@@ -3,6 +3,7 @@
 
 use crate::reference::ScoreCall;
 use crate::tempo_points::{points_of, Point};
+use crate::tones::quarter_tone;
 use crate::waves::voice_of;
 use std::ops::Range;
 use tono::dsl::{SeqNote, SeqWave, TempoPoint, Value};
@@ -83,6 +84,7 @@ pub fn bare(w: &[u32]) -> SeqNote {
         len: w[1],
         pitch: match w[2] {
             0 => Value::Const(f32::from_bits(w[3])),
+            2 => Value::Const(quarter_tone(w[3]).expect("30 is judged before")),
             _ => Value::Modulated(Vec::new()),
         },
         gain: f32::from_bits(w[4]),

@@ -123,6 +123,18 @@ pub fn grooves() -> Vec<Groove> {
             });
         }
     }
+    // a quarter tone has the identity of its number in the table
+    for pitch in [0, 1, 137, 138, 139, 255] {
+        for step in [0, 5] {
+            all.push(Groove {
+                kind: 2,
+                pitch,
+                step,
+                humanize: 1.0,
+                ..BASE
+            });
+        }
+    }
     for gain in GAINS {
         for humanize in [0.0, 0.5, 1.0] {
             all.push(Groove {

@@ -3,6 +3,7 @@
 
 use crate::groove_cases as cases;
 use crate::mapped_grooves;
+use crate::tones::quarter_tone;
 use std::fmt::Write as _;
 use std::fs;
 use std::io;
@@ -35,10 +36,10 @@ fn groove_answer(case: &cases::Groove) -> String {
     let note = SeqNote {
         step: case.step,
         len: case.len,
-        pitch: if case.kind == 0 {
-            Value::Const(f32::from_bits(case.pitch))
-        } else {
-            Value::Modulated(())
+        pitch: match case.kind {
+            0 => Value::Const(f32::from_bits(case.pitch)),
+            2 => Value::Const(quarter_tone(case.pitch).expect("a q with a tone")),
+            _ => Value::Modulated(()),
         },
         gain: case.gain,
     };

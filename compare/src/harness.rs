@@ -19,6 +19,7 @@ unsafe extern "C" {
     pub safe fn h_max64(a: f64, b: f64) -> f64;
     pub safe fn h_draw(state: u64) -> u64;
     pub safe fn h_bi(state: u64) -> f32;
+    pub safe fn h_quarter(q: u32) -> u32;
     pub safe fn h_sin(x: f64) -> f64;
     pub safe fn h_cos(x: f64) -> f64;
     pub safe fn h_exp(x: f64) -> f64;

@@ -50,6 +50,7 @@ mod text_random;
 mod text_reference;
 mod text_stream;
 mod texts;
+mod tones;
 mod tried;
 mod vectors;
 mod voice_vectors;
@@ -74,6 +75,7 @@ const USAGE: &str =
        compare kernel-bench      nanoseconds a call of the f32 kernels, library and original
        compare kernel-vectors    writes the replay files of crates/det_vectors
        compare libm [SCALE]      where the original's f32 kernels and libm part
+       compare tones [SCALE]     every q of the quarter tones; one in SCALE of those above 65,535
        compare voices [COUNT]    COUNT notes of each wave, 10^5 by default
        compare notes [COUNT]     COUNT note calls of every outcome, 10^6 by default
        compare scores [COUNT]    COUNT score calls in lists, 10^6 by default
@@ -108,6 +110,8 @@ fn main() -> ExitCode {
         ["kernels", "all"] => status(kernels::run_all(kernels::COUNT, 1)),
         ["kernels", count] => counted(count, kernels::run),
         ["kernel-bench"] => done(kernel_bench::run()),
+        ["tones"] => status(tones::run(1)),
+        ["tones", scale] => scaled(scale, |scale| status(tones::run(scale))),
         ["voices"] => status(voices::run(voices::COUNT)),
         ["voices", count] => counted(count, voices::run),
         ["notes"] => status(note_calls::run(note_calls::COUNT)),

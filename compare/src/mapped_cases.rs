@@ -5,7 +5,7 @@ use crate::grid::Grid;
 use crate::long_scores::ritardando;
 use crate::mapped_random::just_after;
 use crate::score::Score;
-use crate::score_cases::{curve, note, usual, ABOVE_1, ABOVE_1000, BELOW_1};
+use crate::score_cases::{curve, note, tone, usual, ABOVE_1, ABOVE_1000, BELOW_1};
 use crate::tempo_points::{words_of, Point};
 
 /// Points at these fractions of beats, with their tempi.
@@ -83,6 +83,12 @@ fn notes() -> Vec<Score> {
         with(|s| (s.swing, s.humanize) = (0.0, 1.0)),
         with(|s| (s.swing, s.humanize) = (1.0, 1.0)),
         with_words(&[note(0, 1_048_575, 440.0, 0.8), note(3, 0, 300.0, 0.6)]),
+        // quarter tones, humanized by their numbers in the table, and a q that has none
+        with(|s| {
+            s.words = [tone(0, 2, 120, 0.8), tone(3, 1, 255, 0.6)].concat();
+            s.humanize = 1.0;
+        }),
+        with_words(&[tone(2, 4, 256, 0.6)]),
         // past the last point, and past the frames
         with_words(&[
             note(6, 1, 440.0, 0.8),

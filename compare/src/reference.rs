@@ -5,6 +5,7 @@
 use crate::grid::{bare, Grid};
 use crate::random::{draw, state_at};
 use crate::tempo_points::{are_outside, are_unordered, points_of};
+use crate::tones::quarter_tone;
 use crate::waves::{envelope, voice_of, wave_at};
 use tono::dsl::{SeqNote, SeqWave, TempoPoint, Value};
 use tono::dsp::Rng;
@@ -237,17 +238,20 @@ fn score_refusal(call: &ScoreCall) -> Option<u32> {
 }
 
 /// "then note by note: 8 kind above 1; 9 step or len; 10 gain or constant pitch not sized; 12 offset +
-/// length (module 4's, for skipped notes too) passes the lane's end"; a mapped note has its mapped length
+/// length (module 4's, for skipped notes too) passes the lane's end"; a mapped note has its mapped
+/// length; "It refuses a q above 255 with 30, in the place of 12 for that note, and 8 now means a kind
+/// above 2."
 fn notes_refusal(call: &ScoreCall, grid: &Grid) -> Option<u32> {
     let mut notes = call.words.chunks_exact(5);
     notes.find_map(|w| {
-        let curve = w[2] == 1;
-        let pitched = curve || is_sized(f32::from_bits(w[3]));
+        let (curve, tone) = (w[2] == 1, w[2] == 2);
+        let pitched = curve || tone || is_sized(f32::from_bits(w[3]));
         let passes = || w[3] as usize + grid.length(w) > call.lane.len();
         first(&[
-            (8, w[2] > 1),
+            (8, w[2] > 2),
             (9, w[0].max(w[1]) > 1_048_575),
             (10, !is_sized(f32::from_bits(w[4])) || !pitched),
+            (30, tone && quarter_tone(w[3]).is_none()),
             (12, curve && passes()),
         ])
     })
@@ -272,11 +276,11 @@ impl ScoreCall<'_> {
     fn note(&self, grid: &Grid, w: &[u32]) -> SeqNote {
         let (offset, bare) = (w[3] as usize, bare(w));
         match w[2] {
-            0 => bare,
-            _ => SeqNote {
+            1 => SeqNote {
                 pitch: Value::Modulated(self.lane[offset..offset + grid.length(w)].to_vec()),
                 ..bare
             },
+            _ => bare,
         }
     }
 

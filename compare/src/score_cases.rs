@@ -1,6 +1,7 @@
 //! The scores of crates/score_vectors: each limit of the domain on both sides, and a list of calls.
 
 use crate::score::Score;
+use crate::tones::TONES;
 use crate::voice_vectors::USUAL;
 
 /// The next number above 65,536, and above 1,000, and above 1, and the one below 1.
@@ -26,6 +27,10 @@ pub fn note(step: u32, len: u32, pitch: f32, gain: f32) -> [u32; 5] {
 
 pub fn curve(step: u32, len: u32, offset: u32, gain: f32) -> [u32; 5] {
     [step, len, 1, offset, gain.to_bits()]
+}
+
+pub fn tone(step: u32, len: u32, q: u32, gain: f32) -> [u32; 5] {
+    [step, len, 2, q, gain.to_bits()]
 }
 
 /// 7.5 frames a step; a number that starts at once, and a curve of 15 frames, swung.
@@ -98,7 +103,7 @@ fn words() -> Vec<Score> {
     let steps = [1_048_575, 1_048_576];
     [
         varied(&[0, 1, 4, 5, 9], |s, x| s.words.truncate(x)),
-        varied(&[0, 1, 2, u32::MAX], |s, x| s.words[2] = x),
+        varied(&[0, 1, 2, 3, u32::MAX], |s, x| s.words[2] = x),
         varied(&steps, |s, x| s.words[0] = x),
         varied(&steps, |s, x| s.words[1] = x),
         varied(&[0, 1, 2, u32::MAX], |s, x| s.words[8] = x),
@@ -138,7 +143,7 @@ fn orders() -> Vec<Score> {
         |s| s.string = 9599,
         |s| s.words.push(0),
         |s| s.lane[0] = ABOVE_65536,
-        |s| s.words[2] = 2,
+        |s| s.words[2] = 3,
         |s| s.words[0] = 1_048_576,
         |s| s.words[4] = ABOVE_65536.to_bits(),
         |s| s.words[8] = 2,
@@ -148,15 +153,65 @@ fn orders() -> Vec<Score> {
     let mut scores: Vec<Score> = pairs.map(both).collect();
     // the second note's kind is judged after the first note's gain
     scores.push(with(|s| {
-        s.words[7] = 2;
+        s.words[7] = 3;
         s.words[4] = ABOVE_65536.to_bits();
     }));
     scores
 }
 
+/// 30: on both sides of its limit, alone and with each fault that comes before it or after it.
+fn untuned() -> Vec<Score> {
+    let faults: [fn(&mut Score); 6] = [
+        |_| (),
+        |s| s.words[0] = 1_048_576,
+        |s| s.words[1] = 1_048_576,
+        |s| s.words[4] = ABOVE_65536.to_bits(),
+        // the second note's kind, and its curve
+        |s| s.words[7] = 3,
+        |s| s.words[8] = 2,
+    ];
+    let mut scores = varied(&[0, 255, 256, u32::MAX], |s, q| {
+        (s.words[2], s.words[3]) = (2, q)
+    });
+    for fault in faults {
+        scores.push(with(|s| {
+            (s.words[2], s.words[3]) = (2, 256);
+            fault(s);
+        }));
+    }
+    // a curve that passes the lane's end, and after it a q that has no tone
+    scores.push(with(|s| {
+        s.words[8] = 2;
+        s.words.extend(tone(0, 1, 256, 0.5));
+    }));
+    scores
+}
+
+/// Every quarter tone, twelve a score, on waves that read the pitch, draw by it or groove by it.
+fn tuned() -> Vec<Score> {
+    let waves = [0, 3, 6, 7].iter().cycle();
+    let tones: Vec<u32> = (0..TONES).collect();
+    let scores = tones.chunks(12).zip(waves).map(|(row, &wave)| {
+        with(|s| {
+            s.words = row.iter().flat_map(|&q| tone(q % 4, 2, q, 0.3)).collect();
+            (s.wave, s.humanize) = (wave, 1.0);
+        })
+    });
+    scores.collect()
+}
+
 /// Scores that are each played on a session of its own.
 pub fn edges() -> Vec<Score> {
-    [numbers(), sizes(), words(), lengths(), orders()].concat()
+    [
+        numbers(),
+        sizes(),
+        words(),
+        lengths(),
+        orders(),
+        untuned(),
+        tuned(),
+    ]
+    .concat()
 }
 
 /// Noise, noise whose one note is skipped, and a wave that draws nothing.

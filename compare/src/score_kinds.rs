@@ -79,10 +79,11 @@ impl Score {
     }
 }
 
-fn single(sounded: &[Sounded]) -> [Kind; 3] {
+fn single(sounded: &[Sounded]) -> [Kind; 4] {
     let some = |is: fn(&Sounded) -> bool| sounded.iter().any(is);
     [
         ("accepted with a curve", some(|a| a.words[2] == 1)),
+        ("accepted with a quarter tone", some(|a| a.words[2] == 2)),
         (
             "accepted with a note cut at the end",
             some(|a| a.frames.len() < a.length),

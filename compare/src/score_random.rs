@@ -4,6 +4,7 @@ use crate::grid::Grid;
 use crate::random::Source;
 use crate::score::Score;
 use crate::score_cases::note;
+use crate::tones::TONES;
 use crate::waves::WAVES;
 
 /// The next number above 1.
@@ -94,12 +95,13 @@ impl Score {
         let length = grid.length(&[step, len, 1, 0, 0]);
         let fits = length <= self.lane.len();
         let curve = s.below(if fits { 2 } else { 40 }) == 0;
-        let pitch = match curve {
-            true => self.offset(length, s),
-            false => s.sized(20.0, 5000.0).to_bits(),
+        let (kind, pitch) = match (curve, s.below(3)) {
+            (true, _) => (1, self.offset(length, s)),
+            (false, 0) => (2, s.below(TONES as u64) as u32),
+            (false, _) => (0, s.sized(20.0, 5000.0).to_bits()),
         };
         let gain = s.sized(0.0, 1.0).to_bits();
-        self.words.extend([step, len, curve as u32, pitch, gain]);
+        self.words.extend([step, len, kind, pitch, gain]);
     }
 
     /// A note whose pitch is a number.
@@ -169,11 +171,12 @@ impl Score {
         }
         let at = 5 * s.below(notes as u64) as usize;
         let note = &mut self.words[at..at + 5];
-        match s.below(5) {
+        match s.below(6) {
             0 => note[0] = s.pick(&[1_048_576, u32::MAX]),
             1 => note[1] = s.pick(&[1_048_576, u32::MAX]),
-            2 => note[2] = s.pick(&[2, 3, 256, u32::MAX]),
+            2 => note[2] = s.pick(&[3, 4, 256, u32::MAX]),
             3 => note[3] = s.not_sized().to_bits(),
+            4 => (note[2], note[3]) = (2, s.pick(&[TONES, TONES + 1, u32::MAX])),
             _ => note[4] = s.not_sized().to_bits(),
         }
     }

@@ -3,4 +3,6 @@ pub mod Sizing
 pub mod Magnitude
 pub mod Reach
 pub mod Cases
+pub mod Gains
+pub mod Tones
 pub mod Exact

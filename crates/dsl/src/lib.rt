@@ -15,6 +15,7 @@ pub use knobs::env_sized;
 pub use knobs::knobs_sized;
 pub use note::Decoded;
 pub use note::SeqNote;
+pub use note::Untuned;
 pub use pitch::Pitch;
 pub use sized::all_sized;
 pub use sized::is_sized;

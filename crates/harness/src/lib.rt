@@ -1,12 +1,14 @@
-// The float helpers, the generator, the kernels, the note call, the score call and a board under C
-// names, for the comparison with Rust and for timing. No customer links this.
+// The float helpers, the generator, the kernels, the quarter tones, the note call, the score call and a
+// board under C names, for the comparison with Rust and for timing. No customer links this.
 mod boards; // boards.rt: a list of operations on a board
 mod helpers; // helpers.rt: the float helpers and the generator
 mod kernels; // kernels.rt: the kernels of det
 mod notes; // notes.rt: the note call
 mod outcomes; // outcomes.rt: the numbers of an outcome
 mod scores; // scores.rt: the score call
+mod tones; // tones.rt: the quarter tones
 
 pub use boards::h_board;
 pub use notes::h_note;
 pub use scores::h_score;
+pub use tones::h_quarter;

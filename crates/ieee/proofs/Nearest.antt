@@ -55,7 +55,7 @@ module _ (f : Format) (s : Bool) {A k q : ℕ} {g : ℕ → ℕ} (G : Grows g) (
     tie = λ y b v d e. units-even f s q k (r .most) (r .least) l (tie-even G (digits f) r (short f s b y v) d (says A (g (q * 2 ^ k + b)) Ordering·eq e));
   }
 
-  rounds : RoundsTo f (λ h. compare A (g h)) s (units f s q k)
+  pub rounds : RoundsTo f (λ h. compare A (g h)) s (units f s q k)
   rounds = record {
     beyond = λ h. units-inf f s q k (le-trans (le-of-eq (overflow-is f)) (beyond G (digits f) r (zeros f) (of-not-lt A (g (limit f)) h)));
     within = λ h. is-nearest (lt-of-lt-of-le (within G (digits f) r (zeros f) (says A (g (limit f)) Ordering·lt h)) (le-of-eq (sym (overflow-is f))));

@@ -137,7 +137,7 @@ module _ (f : Format) (v : Magnitude) (s : Bool) (O : Ordered v) where
       go Ordering·gt e = out (λ h. subst Below (sym h ∙ e) tt)
 
 -- ---- what is given by a number A and a growing g is in order: so are the fractions and their roots
-ordered : (A : ℕ) (g : ℕ → ℕ) → Grows g → Ordered (λ h. compare A (g h))
+pub ordered : (A : ℕ) (g : ℕ → ℕ) → Grows g → Ordered (λ h. compare A (g h))
 ordered A g G h i l e = compare-gt A (g h) (subst (λ (n : ℕ). g h < n) (sym (says A (g i) Ordering·eq e)) (G h i l))
 
 pub fraction-ordered : (f : Format) (num den : ℕ) → 0 < den → Ordered (fractionAt f num den)

@@ -3,7 +3,7 @@ use Prim.Native.Nat.{ℕ}
 use mathlib.Core.List.{List, []}
 use lib.Ieee.{Float}
 use Rattle.outcome.specs.declared.answer.Refusal.{Refusal}
-use Rattle.outcome.specs.declared.answer.Refusal.the-variants.{Rate, Frames, Tempo, StepsPerBeat, TempoPoints, TempoOrder, Groove, Knobs, Words, Kind, Steps, Size, Lane, Reach, NoPitch, Lengths, NoteBuffer, StringBuffer, Draws}
+use Rattle.outcome.specs.declared.answer.Refusal.the-variants.{Rate, Frames, Tempo, StepsPerBeat, Tone, TempoPoints, TempoOrder, Groove, Knobs, Words, Kind, Steps, Size, Lane, Reach, NoPitch, Lengths, NoteBuffer, StringBuffer, Draws}
 use Rattle.outcome.specs.declared.answer.Outcome.{Outcome}
 use Rattle.outcome.specs.declared.answer.Outcome.the-variants.{Played, Refused}
 use Rattle.outcome.specs.declared.answer.Verdict.{Verdict}
@@ -15,6 +15,7 @@ numberOf Rate = 1
 numberOf Frames = 2
 numberOf Tempo = 3
 numberOf StepsPerBeat = 4
+numberOf Tone = 30
 numberOf TempoPoints = 31
 numberOf TempoOrder = 32
 numberOf Groove = 5

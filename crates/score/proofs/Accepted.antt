@@ -1,7 +1,7 @@
 -- What a score, or a note of it, that is not refused is known to be. Use wherever an accepted call leans on the domain. Assumes nothing.
 use Prim.Native.Nat.{ℕ, _+_, _*_, _%_, _≤_, _<_}
 use mathlib.Core.Path.{_≡_, sym, ap, _∙_}
-use mathlib.Core.Bool.{true}
+use mathlib.Core.Bool.{true, true≢false}
 use native.Mathlib.Omega.{arith}
 use borrow.Author.Tests.{ltb-false, eqb-true, not-false}
 use lib.ListN.{length}
@@ -11,21 +11,21 @@ use Rattle.laws.proofs.Listed.{from-map}
 use Rattle.dsl.specs.Domain.{Rate, Frames, numeric}
 use Rattle.dsl.specs.Sized.{sizedOf, allSized, pitchSized}
 use Rattle.dsl.specs.Knobs.{knobList, envList}
+use Rattle.dsl.specs.Note.{ofNote}
 use Rattle.dsl.specs.Pitch.{reaches}
 use Rattle.dsl.specs.declared.note.SeqNote.{SeqNote}
 use Rattle.dsl.specs.declared.note.Decoded.{Decoded}
 use Rattle.dsl.specs.declared.note.Decoded.the-variants.{Note}
 use Rattle.dsl.proofs.Magnitude.{sized-numeric}
 use Rattle.dsl.proofs.Reach.{reaches-less}
-use Rattle.dsl.proofs.Cases.{NoNote}
+use Rattle.dsl.proofs.Cases.{NoNote, by-words}
 use Rattle.outcome.specs.First.{firstOf}
-use Rattle.outcome.specs.declared.answer.Verdict.the-variants.{Fine, Refuse}
-use Rattle.outcome.specs.declared.answer.Refusal.the-variants.{Kind}
+use Rattle.outcome.specs.declared.answer.Verdict.the-variants.{Fine}
 use Rattle.outcome.proofs.First.{none-holds, or-fine, inside-least, inside-most, each-fine}
 use Rattle.score.specs.Score.{Score, rateIn, noteIn, noteCount, place}
 use Rattle.tempo.specs.Judge.{inDomain, inOrder}
 use Rattle.score.proofs.Standing.{len-least, sounded-most}
-use Rattle.score.specs.Refusals.{callTests, noteTests, noteRefusal, refusal, Clean}
+use Rattle.score.specs.Refusals.{callTests, noteTests, untunedTests, noteRefusal, refusal, Clean}
 
 -- ---- a note
 -- a note of a score that is not refused
@@ -51,11 +51,12 @@ note-fine s m e =
     }
 
 -- words that are no note are refused
-pub no-note : (s : Score) {e : Decoded} → NoNote e → noteRefusal s e ≡ Fine → ⊥
+pub no-note : (s : Score) (e : Decoded) → NoNote e → noteRefusal s e ≡ Fine → ⊥
 unfolding noteRefusal
-no-note s none fine =
-    let bad : Refuse Kind ≡ Fine = sym (none .other (Refuse Kind) (λ m. firstOf (noteTests s m))) ∙ fine in
-    let z : _≡_ {A = ℕ} 0 1 = cc in omega arith
+no-note s e none =
+    by-words (λ e. ofNote {A = ℕ} 1 (λ m. 0) e ≡ 1 → noteRefusal s e ≡ Fine → ⊥) (λ m no fine. let z : _≡_ {A = ℕ} 0 1 = no in omega arith)
+    (λ u no fine. let (_, (_, (_, (always, _)))) = none-holds (untunedTests u) fine in true≢false always)
+    (λ no fine. let z : _≡_ {A = ℕ} 0 1 = cc in omega arith) e (none .other 1 (λ m. 0))
 
 module _ (s : Score) (clean : Clean s) (k : ℕ) (lt : k < noteCount s) where
   pub clean-note : (m : SeqNote) → noteIn s k ≡ Note m → NoteFine s m

@@ -1,4 +1,5 @@
 pub mod Standing
 pub mod Accepted
 pub mod Straight
+pub mod Untuned
 pub mod Notes

@@ -2,22 +2,24 @@
 use Prim.Native.Nat.{ℕ, _+_, _-_, _%_, _^_, _<_}
 use mathlib.Core.Path.{_≡_}
 use mathlib.Core.List.{List, [], _∷_, _++_, map}
-use mathlib.Core.Bool.{not}
+use mathlib.Core.Bool.{true, not}
 use lib.ListN.{length}
 use lib.Dec.{ltb, eqb}
+use lib.Ieee.{Float}
 use Rattle.ieee.specs.Numbers.{c0, c1, c1000}
 use Rattle.ieee.specs.Order.{withinOf}
 use Rattle.dsl.specs.Sized.{sizedOf, allSized, pitchSized}
 use Rattle.dsl.specs.Knobs.{knobList, envList}
-use Rattle.dsl.specs.Note.{ofNote}
+use Rattle.dsl.specs.Note.{ofWords}
 use Rattle.dsl.specs.Pitch.{passes}
 use Rattle.dsl.specs.declared.note.SeqNote.{SeqNote}
+use Rattle.dsl.specs.declared.note.Untuned.{Untuned}
 use Rattle.dsl.specs.declared.note.Decoded.{Decoded}
 use Rattle.tempo.specs.Judge.{inDomain, inOrder}
 use Rattle.tempo.specs.declared.map.TempoMap.{TempoMap}
 use Rattle.outcome.specs.First.{Test, _⇒_, firstOf, orElse, firstRefusal, outside}
 use Rattle.outcome.specs.Domain.{domainTests}
-use Rattle.outcome.specs.declared.answer.Refusal.the-variants.{Tempo, StepsPerBeat, TempoPoints, TempoOrder, Groove, Knobs, NoteBuffer, StringBuffer, Words, Lane, Kind, Steps, Size, Reach, Draws}
+use Rattle.outcome.specs.declared.answer.Refusal.the-variants.{Tempo, StepsPerBeat, TempoPoints, TempoOrder, Groove, Knobs, NoteBuffer, StringBuffer, Words, Lane, Kind, Steps, Size, Reach, Tone, Draws}
 use Rattle.outcome.specs.declared.answer.Verdict.{Verdict}
 use Rattle.outcome.specs.declared.answer.Verdict.the-variants.{Fine, Refuse}
 use Rattle.score.specs.Score.{Score, noteIn, noteCount, notesIn, place, scoreDraws}
@@ -56,18 +58,25 @@ listTests s = (not (eqb (length (s .notes) % 5) 0) ⇒ Words) ∷ (not (allSized
 abbrev pub callTests : Score → List Test
 callTests s = numberTests (s .seq .timing) (s .n) ++ (voiceTests (s .seq) ++ (lentTests s ++ listTests s))
 
--- "9 step or len; 10 gain or constant pitch not sized"
+-- "9 step or len; 10 gain .. not sized", of every kind
+abbrev pub wordTests : ℕ → ℕ → Float → List Test
+wordTests step len gain = (ltb 1048575 step ⇒ Steps) ∷ (ltb 1048575 len ⇒ Steps) ∷ (not (sizedOf gain) ⇒ Size) ∷ []
+
+-- "or constant pitch": a quarter tone is sized
 abbrev pub valueTests : SeqNote → List Test
-valueTests m =
-    (ltb 1048575 (m .step) ⇒ Steps) ∷ (ltb 1048575 (m .len) ⇒ Steps) ∷ (not (sizedOf (m .gain)) ⇒ Size) ∷ (not (pitchSized (m .pitch)) ⇒ Size) ∷ []
+valueTests m = wordTests (m .step) (m .len) (m .gain) ++ (not (pitchSized (m .pitch)) ⇒ Size) ∷ []
 
 -- "12 offset + length (module 4's, for skipped notes too) passes the lane's end"
 abbrev pub noteTests : Score → SeqNote → List Test
 noteTests s m = valueTests m ++ (passes (m .pitch) (length (s .lane)) (place s m .len) ⇒ Reach) ∷ []
 
--- "8 kind above 1"
+-- "It refuses a q above 255 with 30, in the place of 12 for that note"
+abbrev pub untunedTests : Untuned → List Test
+untunedTests u = wordTests (u .step) (u .len) (u .gain) ++ (true ⇒ Tone) ∷ []
+
+-- "8 now means a kind above 2"
 unfoldable pub noteRefusal : Score → Decoded → Verdict
-noteRefusal s = ofNote (Refuse Kind) (λ m. firstOf (noteTests s m))
+noteRefusal s = ofWords (Refuse Kind) (λ u. firstOf (untunedTests u)) (λ m. firstOf (noteTests s m))
 
 -- "then note by note": all but 22
 unfoldable pub refusal : Score → Verdict

@@ -10,8 +10,9 @@ use Rattle.laws.proofs.Listed.{from-map}
 use Rattle.dsl.specs.Domain.{Frames, numeric}
 use Rattle.dsl.specs.Pitch.{passes}
 use Rattle.dsl.specs.declared.note.SeqNote.{SeqNote}
+use Rattle.dsl.specs.declared.note.Untuned.{Untuned}
 use Rattle.dsl.specs.declared.note.Decoded.{Decoded}
-use Rattle.dsl.specs.declared.note.Decoded.the-variants.{Note}
+use Rattle.dsl.specs.declared.note.Decoded.the-variants.{Note, NoTone}
 use Rattle.dsl.proofs.Magnitude.{sized-numeric}
 use Rattle.tempo.specs.Judge.{inDomain, inOrder}
 use Rattle.tempo.specs.declared.map.TempoMap.{TempoMap}
@@ -22,7 +23,7 @@ use Rattle.outcome.specs.declared.answer.Verdict.{Verdict}
 use Rattle.outcome.specs.declared.answer.Verdict.the-variants.{Fine, Refuse}
 use Rattle.outcome.proofs.First.{none-holds, or-fine, turned, chain-refused, chain-fine}
 use Rattle.score.specs.Score.{Score, noteIn, noteCount, notesIn, place}
-use Rattle.score.specs.Refusals.{mapTests, callTests, valueTests, noteRefusal, refusal}
+use Rattle.score.specs.Refusals.{mapTests, callTests, valueTests, noteTests, untunedTests, noteRefusal, refusal}
 use Rattle.score.proofs.Accepted.{fit}
 
 -- ---- the tempo map, v having been found before
@@ -48,19 +49,28 @@ module _ (v : Verdict) (m : TempoMap) where
     pub order-decides : {w : Verdict} → w ≡ then-order Fine → w ≡ firstAfter v (mapTests m)
     order-decides e = e ∙ ap then-order fine
 
--- ---- one note, whose words are e
-module _ (s : Score) (e : Decoded) (m : SeqNote) (is : e ≡ Note m) where
-  pub values-refuse : {r : Refusal} → Refuse r ≡ firstAfter Fine (valueTests m) → Refuse r ≡ noteRefusal s e
-  unfolding noteRefusal
-  values-refuse found = chain-refused (valueTests m) _ found ∙ ap (noteRefusal s) (sym is)
+-- ---- one note
+module _ (s : Score) (m : SeqNote) where
+  pub values-refuse : {r : Refusal} → Refuse r ≡ firstAfter Fine (valueTests m) → Refuse r ≡ firstOf (noteTests s m)
+  values-refuse found = chain-refused (valueTests m) _ found
 
   module _ (fine : Fine ≡ firstAfter Fine (valueTests m)) where
     pub values-number : numeric (m .pitch)
     values-number = let (_, (_, (_, (p, _)))) = none-holds (valueTests m) (sym (fine ∙ turned Fine (valueTests m))) in sized-numeric (m .pitch) (not-false _ p)
 
-    pub reach-decides : {v : Verdict} → v ≡ cond (passes (m .pitch) (length (s .lane)) (place s m .len)) (Refuse Reach) Fine → v ≡ noteRefusal s e
-    unfolding noteRefusal firstOf
-    reach-decides found = chain-fine (valueTests m) ((passes (m .pitch) (length (s .lane)) (place s m .len) ⇒ Reach) ∷ []) fine found ∙ ap (noteRefusal s) (sym is)
+    pub reach-decides : {v : Verdict} → v ≡ cond (passes (m .pitch) (length (s .lane)) (place s m .len)) (Refuse Reach) Fine → v ≡ firstOf (noteTests s m)
+    unfolding firstOf
+    reach-decides found = chain-fine (valueTests m) ((passes (m .pitch) (length (s .lane)) (place s m .len) ⇒ Reach) ∷ []) fine found
+
+-- words that are a note, or one without its quarter tone
+module _ (s : Score) (e : Decoded) where
+  pub note-decides : (m : SeqNote) → e ≡ Note m → {v : Verdict} → v ≡ firstOf (noteTests s m) → v ≡ noteRefusal s e
+  unfolding noteRefusal
+  note-decides m is found = found ∙ ap (noteRefusal s) (sym is)
+
+  pub untuned-decides : (u : Untuned) → e ≡ NoTone u → {v : Verdict} → v ≡ firstAfter Fine (untunedTests u) → v ≡ noteRefusal s e
+  unfolding noteRefusal
+  untuned-decides u is found = found ∙ turned Fine (untunedTests u) ∙ ap (noteRefusal s) (sym is)
 
 -- ---- all notes
 abbrev pub verdictIn : Score → ℕ → Verdict

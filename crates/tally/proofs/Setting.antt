@@ -8,20 +8,20 @@ use native.Mathlib.Omega.{arith}
 use native.Mathlib.Nat.{add-zero, le-refl}
 use lib.ListN.{length, getD}
 use lib.Dec.{ltb, eqb}
-use lib.Ieee.{Float, binary32, ofBits}
+use lib.Ieee.{Float}
 use Rattle.laws.specs.Listed.{listed}
 use Rattle.laws.proofs.Listed.{from-map, listed-same}
 use Rattle.rng.specs.SplitMix64.{stateAfter}
-use Rattle.dsl.specs.Note.{noteWith, noteOf, ofNote}
+use Rattle.dsl.specs.Note.{noteOf, ofWords}
 use Rattle.dsl.specs.Pitch.{pitchAt, passes}
 use Rattle.dsl.specs.Sized.{allSized, pitchSized}
 use Rattle.dsl.specs.declared.pitch.Pitch.{Pitch}
-use Rattle.dsl.specs.declared.pitch.Pitch.the-variants.{Const, Curve}
 use Rattle.dsl.specs.declared.wave.SeqWave.{SeqWave}
 use Rattle.dsl.specs.declared.note.SeqNote.{SeqNote}
+use Rattle.dsl.specs.declared.note.Untuned.{Untuned}
 use Rattle.dsl.specs.declared.note.Decoded.{Decoded}
-use Rattle.dsl.specs.declared.note.Decoded.the-variants.{Note, NoKind}
-use Rattle.dsl.proofs.Cases.{NoNote, by-kind}
+use Rattle.dsl.proofs.Cases.{NoNote, by-words, by-kind}
+use Rattle.dsl.proofs.Gains.{note, Free, word-free}
 use Rattle.groove.specs.Humanize.{seedOf, humanizeDraws}
 use Rattle.groove.specs.Timing.{humanDelay, grooveOf}
 use Rattle.groove.specs.Mapped.{endStep, humanDelay64, mappedOf}
@@ -29,7 +29,7 @@ use Rattle.tempo.specs.Map.{points}
 use Rattle.counts.specs.Draws.{drawsOf}
 use Rattle.outcome.specs.Answer.{accepted, unless, reported}
 use Rattle.outcome.specs.First.{Test, _⇒_, firstOf, orElse, firstRefusal}
-use Rattle.outcome.specs.declared.answer.Refusal.the-variants.{Kind, Steps, Size, Reach, Words, Lane, NoteBuffer, StringBuffer, Draws}
+use Rattle.outcome.specs.declared.answer.Refusal.the-variants.{Kind, Steps, Size, Reach, Tone, Words, Lane, NoteBuffer, StringBuffer, Draws}
 use Rattle.outcome.specs.declared.answer.Verdict.{Verdict}
 use Rattle.outcome.specs.declared.answer.Verdict.the-variants.{Fine, Refuse}
 use Rattle.outcome.proofs.First.{first-append}
@@ -38,7 +38,7 @@ use Rattle.session.specs.declared.Session.{Session}
 use Rattle.score.specs.declared.seq.Timing.{Timing}
 use Rattle.score.specs.declared.place.Place.{Place}
 use Rattle.score.specs.Score.{Score, rateIn, waveIn, noteAt, noteIn, noteCount, notesIn, straightPlace, mappedPlace, placeOf, place, skips, pitch, drawsIn, noteDraws, drawsBefore, scoreDraws}
-use Rattle.score.specs.Refusals.{numberTests, voiceTests, lentTests, listTests, callTests, noteTests, noteRefusal, refusal, refusalAt}
+use Rattle.score.specs.Refusals.{numberTests, voiceTests, lentTests, listTests, callTests, noteRefusal, refusal, refusalAt}
 use Rattle.score.proofs.Notes.{none-sounded, some-sounded, draws-all}
 use Rattle.score_contract.specs.ScoreCall.{Event, scoreIn}
 use Rattle.tally.specs.Tally.{allTaken, tallied, newDraw, tally}
@@ -94,9 +94,6 @@ pub same-draws : (s s′ : Score) → Alike s s′ → scoreDraws s ≡ scoreDra
 same-draws s s′ alike = draws-all s ∙ before-same s s′ alike (noteCount s) (le-refl (noteCount s)) ∙ ap (drawsBefore s′) (alike .notes) ∙ sym (draws-all s′)
 
 -- ---- scores that differ in knobs, duty, envelope and gains
-abbrev note : ℕ → ℕ → Pitch → Float → SeqNote
-note step len p gain = record { step = step; len = len; pitch = p; gain = gain }
-
 -- a note's gain moves neither its start nor its length
 either : {A : Type 0} (f : Place → A) (b : Bool) (x y x′ y′ : Place) → f x ≡ f x′ → f y ≡ f y′ → f (cond b x y) ≡ f (cond b x′ y′)
 either f true x y x′ y′ p q = p
@@ -111,23 +108,11 @@ module _ (t : Timing) (n step len : ℕ) (p : Pitch) (gain gain′ : Float) wher
   unfolding placeOf straightPlace mappedPlace grooveOf mappedOf humanDelay humanDelay64 humanizeDraws seedOf endStep
   len-by = either (λ (x : Place). x .len) (eqb (length (points (t .«tempo_map»))) 0) _ _ _ _ refl refl
 
--- a reading of notes that does not see the gain
-abbrev Free : {A : Type 0} → (Decoded → A) → Type 0
-Free read = (step len : ℕ) (p : Pitch) (gain gain′ : Float) → read (Note (note step len p gain)) ≡ read (Note (note step len p gain′))
-
--- it does not see the word that the gain is read from
-word-free : {A : Type 0} (read : Decoded → A) → Free read → (step len kind p g g′ : ℕ) → read (noteOf step len kind p g) ≡ read (noteOf step len kind p g′)
-unfolding noteOf
-word-free {A} read free step len kind p g g′ = by (eqb kind 0) (eqb kind 1)
-  where
-    by : (a b : Bool) → read (cond a (noteWith step len (Const (ofBits binary32 p)) g) (cond b (noteWith step len (Curve p) g) NoKind))
-        ≡ read (cond a (noteWith step len (Const (ofBits binary32 p)) g′) (cond b (noteWith step len (Curve p) g′) NoKind))
-    by true b = free step len (Const (ofBits binary32 p)) _ _
-    by false true = free step len (Curve p) _ _
-    by false false = refl
-
 sounded-free : (s : Score) → Free (soundedIn s)
-sounded-free s step len p gain gain′ = sounded-by (s .seq .timing) (s .n) step len p gain gain′
+sounded-free s = record { notes = sounded-by (s .seq .timing) (s .n); others = λ step len gain gain′. refl }
+
+first-free : (s : Score) → Free (firstIn s)
+first-free s = record { notes = λ step len p gain gain′. refl; others = λ step len gain gain′. refl }
 
 -- ---- a note's refusal, but for its gain
 abbrev bareTests : Score → SeqNote → List Test
@@ -138,20 +123,24 @@ bareTests s m =
     ∷ (passes (m .pitch) (length (s .lane)) (place s m .len) ⇒ Reach)
     ∷ []
 
+abbrev bareUntuned : Untuned → List Test
+bareUntuned u = (ltb 1048575 (u .step) ⇒ Steps) ∷ (ltb 1048575 (u .len) ⇒ Steps) ∷ (true ⇒ Tone) ∷ []
+
 bareRefusal : Score → Decoded → Verdict
-bareRefusal s = ofNote (Refuse Kind) (λ m. firstOf (bareTests s m))
+bareRefusal s = ofWords (Refuse Kind) (λ u. firstOf (bareUntuned u)) (λ m. firstOf (bareTests s m))
 
 -- where the gain is sized it does not refuse
 gain-passes : (s : Score) (e : Decoded) → gainSized e ≡ true → noteRefusal s e ≡ bareRefusal s e
 unfolding noteRefusal bareRefusal firstOf
-gain-passes s = by-kind (λ e. gainSized e ≡ true → noteRefusal s e ≡ bareRefusal s e) (λ m sized. rw sized)
-    (λ e none sized. none .other (Refuse Kind) (λ m. firstOf (noteTests s m)) ∙ sym (none .other (Refuse Kind) (λ m. firstOf (bareTests s m))))
+gain-passes s = by-words (λ e. gainSized e ≡ true → noteRefusal s e ≡ bareRefusal s e) (λ m sized. rw sized) (λ u sized. rw sized) (λ sized. refl)
 
 bare-free : (s : Score) → Free (bareRefusal s)
 unfolding bareRefusal
-bare-free s step len p gain gain′ =
-    ap (λ (k : ℕ). firstOf ((ltb 1048575 step ⇒ Steps) ∷ (ltb 1048575 len ⇒ Steps) ∷ (not (pitchSized p) ⇒ Size) ∷ (passes p (length (s .lane)) k ⇒ Reach) ∷ []))
-    (len-by (s .seq .timing) (s .n) step len p gain gain′)
+bare-free s = record {
+  notes = λ step len p gain gain′. ap (λ (k : ℕ). firstOf ((ltb 1048575 step ⇒ Steps) ∷ (ltb 1048575 len ⇒ Steps) ∷ (not (pitchSized p) ⇒ Size)
+      ∷ (passes p (length (s .lane)) k ⇒ Reach) ∷ [])) (len-by (s .seq .timing) (s .n) step len p gain gain′);
+  others = λ step len gain gain′. refl;
+}
 
 module _ (s s′ : Score) (r : Reset s s′) where
   -- note k of s is that of s′ but for its gain
@@ -178,10 +167,10 @@ module _ (s s′ : Score) (r : Reset s s′) where
 
   bare-same : (e : Decoded) → bareRefusal s e ≡ bareRefusal s′ e
   unfolding bareRefusal
-  bare-same = by-kind (λ e. bareRefusal s e ≡ bareRefusal s′ e)
+  bare-same = by-words (λ e. bareRefusal s e ≡ bareRefusal s′ e)
       (λ m j. firstOf ((ltb 1048575 (m .step) ⇒ Steps) ∷ (ltb 1048575 (m .len) ⇒ Steps) ∷ (not (pitchSized (m .pitch)) ⇒ Size)
       ∷ (passes (m .pitch) (length (r .lane j)) (placeOf (r .timing j) (r .frames j) m .len) ⇒ Reach) ∷ []))
-      (λ e none. none .other (Refuse Kind) (λ m. firstOf (bareTests s m)) ∙ sym (none .other (Refuse Kind) (λ m. firstOf (bareTests s′ m))))
+      (λ u. refl) refl
 
   count-same : noteCount s ≡ noteCount s′
   count-same = ap (λ (n : ℕ). n / 5) (r .words)
@@ -193,7 +182,7 @@ module _ (s s′ : Score) (r : Reset s s′) where
     rate = λ j. r .timing j .rate;
     notes = count-same;
     sounded = reset-read (soundedIn s) (soundedIn s′) (sounded-free s) sounded-same;
-    first = λ k h some. reset-read (firstIn s) (firstIn s′) (λ step len p gain gain′. refl) first-same k h;
+    first = λ k h some. reset-read (firstIn s) (firstIn s′) (first-free s) first-same k h;
   }
 
   -- ---- they are refused alike

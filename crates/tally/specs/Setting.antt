@@ -7,7 +7,7 @@ use lib.ListN.{length, getD}
 use lib.Ieee.{Float, nan}
 use Rattle.rng.specs.SplitMix64.{stateAfter}
 use Rattle.dsl.specs.Sized.{sizedOf}
-use Rattle.dsl.specs.Note.{ofNote}
+use Rattle.dsl.specs.Note.{ofWords, ofNote}
 use Rattle.dsl.specs.declared.note.Decoded.{Decoded}
 use Rattle.outcome.specs.Answer.{Result, refused, accepted}
 use Rattle.outcome.specs.First.{firstOf}
@@ -28,9 +28,9 @@ soundedIn s = ofNote 0 (λ m. place s m .sounded)
 abbrev pub firstIn : Score → Decoded → Float
 firstIn s = ofNote nan (λ m. pitch s m 0)
 
--- whether its gain is sized
+-- whether its gain is sized; of words of no kind nothing is asked
 abbrev pub gainSized : Decoded → Bool
-gainSized = ofNote true (λ m. sizedOf (m .gain))
+gainSized = ofWords true (λ u. sizedOf (u .gain)) (λ m. sizedOf (m .gain))
 
 -- Two scores of one wave and one rate whose notes have the same sounded frames, and the same first pitch where they sound. Everything else is free.
 pub record Alike (s s′ : Score) : Type 0 where

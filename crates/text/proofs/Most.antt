@@ -1,7 +1,7 @@
 -- Use where a reply is to be long enough for every listing: `listing-most`. A listing is longest where all 2,048 frames are printed, each with 16 bytes at most, after a G line
 -- of 40 bytes at most. Assumes nothing.
 use Prim.Native.Nat.{ℕ, zero, suc, _+_, _-_, _^_, _≤_, _<_}
-use mathlib.Core.Path.{_≡_, refl, sym, ap, _∙_}
+use mathlib.Core.Path.{_≡_, refl, ap, _∙_}
 use mathlib.Core.List.{List, [], _∷_, _++_, map}
 use mathlib.Core.Bool.{Bool, true, false, cond}
 use native.Mathlib.Omega.{arith}
@@ -11,17 +11,17 @@ use lib.Ieee.{Float}
 use lib.ListN.{length, drop}
 use Rattle.rng.specs.SplitMix64.{stateAfter}
 use Rattle.dsl.specs.declared.note.Decoded.{Decoded}
-use Rattle.dsl.proofs.Cases.{by-kind}
+use Rattle.dsl.proofs.Cases.{by-words, by-kind}
 use Rattle.mix.proofs.Mixing.{silence-length, mixed-length}
 use Rattle.outcome.specs.Answer.{Result, accepted, unless, numberOf, framesIn}
 use Rattle.outcome.specs.declared.answer.Refusal.{Refusal}
-use Rattle.outcome.specs.declared.answer.Refusal.the-variants.{Kind, Draws}
+use Rattle.outcome.specs.declared.answer.Refusal.the-variants.{Draws}
 use Rattle.outcome.specs.declared.answer.Verdict.{Verdict}
 use Rattle.outcome.specs.declared.answer.Verdict.the-variants.{Fine, Refuse}
 use Rattle.outcome.specs.First.{Test, _⇒_, firstOf, orElse, firstRefusal}
 use Rattle.outcome.proofs.First.{none-holds, or-fine}
 use Rattle.score.specs.Score.{Score, rateIn, noteIn, noteCount, notesIn, place, skips, scoreDraws}
-use Rattle.score.specs.Refusals.{callTests, noteTests, noteRefusal, refusal, refusalAt}
+use Rattle.score.specs.Refusals.{callTests, noteTests, untunedTests, noteRefusal, refusal, refusalAt}
 use Rattle.score.specs.declared.seq.Seq.{Seq}
 use Rattle.tally.specs.Alone.{aloneOf}
 use Rattle.tally.specs.Tally.{Taken, takenNote, taken, takenAfter, allTaken, tallied, newDraw, tally}
@@ -69,8 +69,7 @@ small-all f each (x ∷ xs) = small-or (f x) (firstRefusal (map f xs)) (each x) 
 module _ (s : Score) where
   small-note : (e : Decoded) → Small (noteRefusal s e)
   unfolding noteRefusal
-  small-note = by-kind (λ e. Small (noteRefusal s e)) (λ m. small-first (noteTests s m) tt)
-      (λ e none r q. same-number (sym (none .other (Refuse Kind) (λ m. firstOf (noteTests s m))) ∙ q) (omega arith))
+  small-note = by-words (λ e. Small (noteRefusal s e)) (λ m. small-first (noteTests s m) tt) (λ u. small-first (untunedTests u) tt) (λ r q. same-number q (omega arith))
 
   score-small : (d : ℕ) → Small (refusalAt s d)
   unfolding refusalAt refusal

@@ -15,7 +15,6 @@ replay-groove-spec =
     (λ c κs. search needs)
     (λ c. search needs)
     (λ c. search needs)
-    (λ c. search needs)
     (λ c κs. search needs)
     answer-groove-requires
     (λ c. search needs)

@@ -1,7 +1,8 @@
 -- `score_draws::note_draws` meets its contract. Assumes nothing.
-use mathlib.Core.Path.{sym, _∙_}
+use mathlib.Core.Path.{sym, ap, _∙_}
 use borrow.Author.Tests.{lt-leb}
-use Rattle.score.specs.Score.{Score, scoreOf, noteDraws}
+use Rattle.dsl.proofs.Cases.{no-note-left}
+use Rattle.score.specs.Score.{Score, scoreOf, drawsIn, noteDraws}
 use Rattle.score.proofs.Accepted.{place-asks, first-reached}
 use Rattle.score.proofs.Notes.{skipped-draws, sounded-draws}
 use borrow.Author.Needs.{needs}
@@ -13,7 +14,9 @@ score-in c = scoreOf (c .args .seq) (c .args .notes .now) (c .args .lane .now) (
 
 returns : tie.Need-returns
 unfolding noteDraws
-returns c = rw (sym (c .before .before .note-at .ensures) ∙ c .enum-told .given .1)
+returns c =
+    let s = score-in (c .before .before .before .before) in
+    sym (no-note-left (c .before .note-at .result) (c .match .keys2) .other 0 (drawsIn s)) ∙ ap (noteDraws s) (c .before .note-at .ensures)
 
 place-note-requires : tie.Need-place-note-requires
 place-note-requires c κs =
@@ -55,7 +58,6 @@ note-draws-spec =
     tie.close
     (tie.spec
     (λ c κs. search needs)
-    (λ c. search needs)
     (λ c. search needs)
     returns
     place-note-requires

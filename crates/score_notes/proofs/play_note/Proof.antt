@@ -1,6 +1,7 @@
 -- `score_notes::play_note` meets its contract. Assumes nothing.
 use mathlib.Core.Path.{refl, sym, ap, _∙_}
 use native.Mathlib.Omega.{arith}
+use Rattle.dsl.proofs.Cases.{no-note-left}
 use Rattle.score.specs.Score.{Score, scoreOf}
 use Rattle.score.specs.Refusals.{noteRefusal}
 use Rattle.score.proofs.Accepted.{no-note, accepted-score, fine-in, place-asks}
@@ -14,10 +15,10 @@ score-in c = scoreOf (c .args .seq) (c .args .notes .now) (c .args .lane .now) (
 
 returns : tie.Need-returns
 returns c =
-    let at = c .before .before .before .before .before .before .before .before in
+    let at = c .before .before .before .before .before .before .before in
     let s = score-in at in
     let none = accepted-score s (at .pre .0) .clean _ (at .pre .1 .0) in
-    absurd (no-note s (record { other = λ o f. refl }) (ap (noteRefusal s) (sym (c .enum-told .given .1) ∙ c .before .before .note-at .ensures) ∙ none))
+    absurd (no-note s _ (no-note-left (c .before .note-at .result) (c .match .keys2)) (ap (noteRefusal s) (c .before .note-at .ensures) ∙ none))
 
 place-note-requires : tie.Need-place-note-requires
 place-note-requires c κs =
@@ -66,7 +67,6 @@ play-note-spec =
     tie.close
     (tie.spec
     (λ c κs. omega arith)
-    (λ c. search needs)
     (λ c. search needs)
     returns
     place-note-requires

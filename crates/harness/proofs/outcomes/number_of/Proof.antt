@@ -4,8 +4,7 @@ use Rattle.harness.proofs.outcomes.number_of.Statement.{statement}
 use Rattle.harness.proofs.outcomes.number_of.Tie as tie
 
 returns-2 : tie.Need-returns-2
-returns-2 c = rw (c .number .ensures, c .before .before .outcome .given .1)
+returns-2 c = rw (c .before .before .outcome .given .1) (c .number .ensures)
 
 pub number-of-spec : {M : Type 1} → statement M
-number-of-spec =
-    tie.close (tie.spec (λ c. search needs) (λ c. search needs) (λ c κs. search needs) (λ c. search needs) returns-2)
+number-of-spec = tie.close (tie.spec (λ c. search needs) (λ c. search needs) (λ c κs. search needs) (λ c. search needs) returns-2)

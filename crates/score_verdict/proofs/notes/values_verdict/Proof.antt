@@ -5,21 +5,15 @@ use Rattle.score_verdict.proofs.notes.values_verdict.Tie as tie
 
 returns : tie.Need-returns
 returns c = rw (
-  c .or-else4 .ensures,
-  c .before .is-sized2 .ensures,
-  c .before .before .or-else3 .ensures,
-  c .before .before .before .is-sized .ensures,
-  c .before .before .before .before .or-else2 .ensures,
-  c .before .before .before .before .before .before .or-else .ensures,
+  c .or-else .ensures,
+  c .before .is-sized .ensures,
+  c .before .before .words-verdict .ensures,
 )
 
 pub values-verdict-spec : {M : Type 1} → statement M
 values-verdict-spec =
     tie.close
     (tie.spec
-    (λ c κs. search needs)
-    (λ c κs. search needs)
-    (λ c κs. search needs)
     (λ c κs. search needs)
     (λ c κs. search needs)
     (λ c κs. search needs)

@@ -17,7 +17,13 @@ returns-2 c = if-false _ (ne-eqb _ _ (c .before .before .if1 .left)) (if-true _ 
 
 returns-3 : tie.Need-returns-3
 unfolding noteOf
-returns-3 c = if-false _ (ne-eqb _ _ (c .before .if1 .left)) (if-false _ (ne-eqb _ _ (c .if2 .left)) refl)
+returns-3 c =
+    if-false _ (ne-eqb _ _ (c .before .before .before .if1 .left))
+    (if-false _ (ne-eqb _ _ (c .before .before .if2 .left)) (if-true _ (eq-eqb _ _ (c .before .if3 .taken)) (c .tuned .ensures)))
+
+returns-4 : tie.Need-returns-4
+unfolding noteOf
+returns-4 c = if-false _ (ne-eqb _ _ (c .before .before .if1 .left)) (if-false _ (ne-eqb _ _ (c .before .if2 .left)) (if-false _ (ne-eqb _ _ (c .if3 .left)) refl))
 
 pub decode-spec : {M : Type 1} → statement M
 decode-spec =
@@ -28,4 +34,6 @@ decode-spec =
     returns
     (λ c κs. search needs)
     returns-2
-    returns-3)
+    (λ c κs. search needs)
+    returns-3
+    returns-4)
