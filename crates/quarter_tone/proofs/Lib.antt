@@ -3,4 +3,5 @@ mod Lookup
 mod Amid
 pub mod Nearest
 pub mod Octaves
+mod Halving
 pub mod Bits

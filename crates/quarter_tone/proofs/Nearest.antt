@@ -3,7 +3,6 @@
 use Prim.Native.Nat.{ℕ, _-_, _/_, _%_, _^_, _<_}
 use mathlib.Core.Path.{_≡_}
 use mathlib.Core.Bool.{Bool, false}
-use lib.ListN.{length}
 use lib.Ieee.{Float, binary32}
 use Rattle.ieee.specs.Nearest.{RoundsTo}
 use Rattle.ieee.proofs.Unique.{ordered, rounds-unique}
@@ -44,8 +43,3 @@ no-nearer q h = amid-rounds (patternAt q) (amid-tone q h) q (nearest-tone q h)
 
 pub only-nearest : (q : ℕ) → q < 256 → (x : Float) → RoundsTo binary32 (exactTone q) false x → x ≡ toneAt q
 only-nearest q h x r = rounds-unique binary32 (exactTone q) false (ordered (meant q) (λ h. h ^ 24) powers-grow) r (no-nearer q h)
-
--- ---- there are 256 entries
-pub has-entry : (q : ℕ) → q < 256 → q < length patterns
-unfolding patterns
-has-entry q h = h

@@ -1,3 +1,4 @@
 pub mod Tones
 pub mod Rule
 pub mod Lookup
+pub mod Halves
