@@ -1,4 +1,6 @@
 // The C call: what a rig's host links.
+mod wave; // wave.rt: the calls on WAVE files
+
 ghost use Rattle.tono.specs.Answered.{Answered};
 use text::Reply;
 

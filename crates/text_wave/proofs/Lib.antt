@@ -1,0 +1,2 @@
+mod Patterns
+pub mod Filing
