@@ -37,7 +37,14 @@ fn write_answer(rate: u32, answer: Answer, frames: &[f32], file: &mut [u8]) -> T
 }
 
 // Plays n frames from the session that `seed` and `draw` open, and writes them.
-pub(crate) fn play_file(seq: Seq, notes: &[u32], n: usize, seed: u64, draw: u64, file: &mut [u8]) -> TextWave
+pub(crate) fn play_file(
+    seq: Seq,
+    notes: &[u32],
+    n: usize,
+    seed: u64,
+    draw: u64,
+    file: &mut [u8],
+) -> TextWave
     requires { ⌜ n ≤ 2048 ⌝ }
     ensures { λ r. ⌜ Filed (playedFile seq (now (notes .entry)) n seed draw (length (now (file .entry)))) (now (file .entry)) r (now (file .exit)) ⌝ }
 {

@@ -1,17 +1,22 @@
 // Reads a WAVE file from standard input and prints a line for each sample: F, its index and its own
-// bits. Of a file that is refused it prints one line, R and the number. It has room for 2,048 samples and
-// for a file of 1,048,576 bytes; what has more is refused with 23.
+// bits. Of a file that is refused it prints one line, R and the number.
 ghost use mathlib.Core.Path.{_≡_};
+ghost use Prim.Native.Nat.{_≤_, _<_};
 ghost use lib.ListN.{length};
+ghost use Rattle.io.specs.Counts.{Counts};
+ghost use Rattle.text_listing.specs.Printed.{Printed};
+ghost use Rattle.wave_frames.specs.Input.{fileLines, InputShown};
 use libc::STDIN_FILENO;
 use libc::STDOUT_FILENO;
+use text_listing::put_lines;
+use text_listing::put_refusal;
 use wave_read::WaveRead;
 
 // One byte more than the longest file shows that the input is longer.
-fn file_buffer() -> [u8; 1048577]
-    ensures { λ r. ⌜ 1048577 ≡ length r ⌝ }
+fn file_buffer() -> [u8; 65537]
+    ensures { λ r. ⌜ 65537 ≡ length r ⌝ }
 {
-    [0u8; 1048577]
+    [0u8; 65537]
 }
 
 fn samples_buffer() -> [u32; 2048]
@@ -20,42 +25,45 @@ fn samples_buffer() -> [u32; 2048]
     [0u32; 2048]
 }
 
-fn print_sample(index: usize, bits: u32) {
-    io::write_all(STDOUT_FILENO, b"F\t");
-    io::print_decimal(STDOUT_FILENO, index as u64);
-    io::write_all(STDOUT_FILENO, b"\t");
-    io::print_hex(STDOUT_FILENO, bits as u64, 8);
-    io::write_all(STDOUT_FILENO, b"\n");
+// A line of a sample has at most 16 bytes.
+fn page_buffer() -> [u8; 32768]
+    ensures { λ r. ⌜ 32768 ≡ length r ⌝ }
+{
+    [0u8; 32768]
 }
 
-fn print_samples(samples: &[u32]) {
-    let mut i = 0;
-    while i < samples.len() {
-        print_sample(i, samples[i]);
-        i += 1;
+// Puts the lines of `file` at the start of `page`, and gives their length.
+fn put_file_lines(file: &[u8], samples: &mut [u32], page: &mut [u8]) -> usize
+    requires { ⌜ 2048 ≡ length (now samples) ⌝ }
+    requires { ⌜ 32768 ≤ length (now page) ⌝ }
+    ensures { λ r. ⌜ Printed (fileLines (now (file .entry))) 0 (now (page .entry)) r (now (page .exit)) ⌝ }
+{
+    if file.len() > 65536 {
+        return put_refusal(page, 23);
+    }
+    match wave_read::read_wave(file, samples) {
+        WaveRead::Samples { rate: _, count } => put_lines(page, &samples[..count]),
+        WaveRead::Refused(refusal) => put_refusal(page, refusal.number()),
     }
 }
 
-fn print_refusal(number: u32) {
-    io::write_all(STDOUT_FILENO, b"R\t");
-    io::print_decimal(STDOUT_FILENO, number as u64);
-    io::write_all(STDOUT_FILENO, b"\n");
-}
-
-fn print_file(file: &[u8]) {
-    let mut samples = samples_buffer();
-    match wave_read::read_wave(file, &mut samples) {
-        WaveRead::Samples { rate: _, count } => print_samples(&samples[..count]),
-        WaveRead::Refused(refusal) => print_refusal(refusal.number()),
-    }
+// Reads the input into `file` and puts its lines at the start of `page`; the answer is how many bytes
+// of the page are to be written.
+fn show_input(file: &mut [u8], samples: &mut [u32], page: &mut [u8]) -> usize
+    requires { ⌜ 65536 < length (now file) ⌝ }
+    requires { ⌜ 2048 ≡ length (now samples) ⌝ }
+    requires { ⌜ 32768 ≤ length (now page) ⌝ }
+    ensures { λ r. ⌜ InputShown (now (file .exit)) (now (page .entry)) r (now (page .exit)) ⌝ }
+    ensures { λ r. ⌜ Counts r (now (page .exit)) ⌝ }
+{
+    let read = io::read_full(STDIN_FILENO, file);
+    put_file_lines(&file[..read], samples, page)
 }
 
 fn main() {
     let mut file = file_buffer();
-    let length = io::read_full(STDIN_FILENO, &mut file);
-    if length > 1048576 {
-        print_refusal(23);
-    } else {
-        print_file(&file[..length]);
-    }
+    let mut samples = samples_buffer();
+    let mut page = page_buffer();
+    let written = show_input(&mut file, &mut samples, &mut page);
+    io::write_all(STDOUT_FILENO, &page[..written]);
 }

@@ -18,7 +18,7 @@ use Rattle.wave_read.specs.declared.chunks.Given.{Given}
 use Rattle.wave_read.specs.declared.chunks.Given.the-variants.{Missing, Is}
 use Rattle.wave_read.specs.declared.chunks.Met.{Met}
 use Rattle.wave_read.proofs.Walking.{walk-next}
-use Rattle.wave_round_trip.specs.Row.{Fmt, Fact, Other, Row, none, other, fmt, fact}
+use Rattle.wave_round_trip.specs.Row.{Other, Row, none, other, fmt, fact}
 
 module _ (name : ℕ) (body rest : List ℕ) where
   abbrev cs : List ℕ
