@@ -25,5 +25,5 @@ module _ (frames : List Float) where
   all = some (length frames) (omega arith) ∙ ap (map frameBits) (take-length frames)
 
 -- what of a longer buffer is handed on
-pub taken : {frames : List Float} {bits₀ bits : List ℕ} → bits ≡ map frameBits frames ++ drop (length frames) bits₀ → take (length frames) bits ≡ map frameBits frames
-taken {frames} {bits₀} e = rw e (take-at (map frameBits frames) (drop (length frames) bits₀) (length frames) (length-map frames frameBits))
+pub taken : (frames : List Float) (rest : List ℕ) → take (length frames) (map frameBits frames ++ rest) ≡ map frameBits frames
+taken frames rest = take-at (map frameBits frames) rest (length frames) (length-map frames frameBits)

@@ -4,16 +4,7 @@ ghost use mathlib.Core.List.{_++_, map};
 ghost use Prim.Native.Nat.{_≤_};
 ghost use lib.ListN.{length, drop};
 ghost use Rattle.text_listing.specs.Lines.{frameBits};
-
-// One pattern for every NaN.
-fn frame_bits(x: f32) -> u32
-    ensures { λ r. ⌜ r ≡ frameBits x ⌝ }
-{
-    if x != x {
-        return 0x7fc0_0000;
-    }
-    f32::to_bits(x)
-}
+use text_listing::frame_bits;
 
 // The patterns of all frames at the start of `bits`.
 pub(crate) fn put_bits(frames: &[f32], bits: &mut [u32])

@@ -1,93 +1,65 @@
+-- `text_wave::call::wave_text` meets its contract. Assumes nothing.
+use Prim.Native.Nat.{_*_, _≤_}
+use mathlib.Core.Path.{sym}
+use native.Mathlib.Omega.{arith}
+use lib.ListN.{length}
+use lib.Seq.{length-take-le}
+use Rattle.text_read.proofs.Said.{parsed-broken, parsed-score, said-words}
 use borrow.Author.Needs.{needs}
+use Rattle.text_wave.proofs.Filing.{filed-none, filed-as, file-long, file-broken, file-frames, file-notes, file-played}
 use Rattle.text_wave.proofs.call.wave_text.Statement.{statement}
 use Rattle.text_wave.proofs.call.wave_text.Tie as tie
-use Rattle.text_wave.proofs.call.wave_text.Reads as reads
-use Rattle.text_wave.proofs.call.wave_text.Lts as lts
-use Rattle.text_read.proofs.read_score.Reads as read-score-reads
-use Rattle.text_wave.proofs.call.words_buffer.Reads as words-buffer-reads
-use Rattle.text_wave.proofs.play.play_file.Reads as play-file-reads
 
--- src/call.rt:23:9
 returns : tie.Need-returns
-returns c = ?
+returns c = filed-none 16 (file-long _ _ (c .if1 .taken))
 
--- src/call.rt:25:21
-words-buffer-requires : tie.Need-words-buffer-requires
-words-buffer-requires c κs = search needs
-
--- src/call.rt:26:60
-slice-aggregate-read-score : tie.Need-slice-aggregate-read-score
-slice-aggregate-read-score c = search needs
-
--- src/call.rt:26:32
-read-score-requires : tie.Need-read-score-requires
-read-score-requires c κs = search needs
-
--- src/call.rt:26:23
-enum-known-score : tie.Need-enum-known-score
-enum-known-score c = search needs
-
--- src/call.rt:27:9
-enum-told : tie.Need-enum-told
-enum-told c = search needs
-
--- src/call.rt:27:9
 returns-2 : tie.Need-returns-2
-returns-2 c = ?
+returns-2 c = filed-none 15 (file-broken _ _ (c .before .before .before .before .before .before .if1 .left) (parsed-broken (c .before .before .before .read-score .ensures) (c .enum-told .given .1)))
 
--- src/call.rt:30:9
 returns-3 : tie.Need-returns-3
-returns-3 c = ?
+returns-3 c = filed-none 16 (file-frames _ _ (c .before .before .before .before .before .before .before .before .before .if1 .left) (parsed-score (c .before .before .before .before .before .before .read-score .ensures) (c .before .before .before .score .given .1)) (c .if2 .taken))
 
--- src/call.rt:33:9
 returns-4 : tie.Need-returns-4
-returns-4 c = ?
+returns-4 c = filed-none 16 (file-notes _ _ (c .before .before .before .before .before .before .before .before .before .before .before .if1 .left) (parsed-score (c .before .before .before .before .before .before .before .before .read-score .ensures) (c .before .before .before .before .before .score .given .1)) (c .before .before .if2 .left) (c .if3 .taken))
 
--- src/call.rt:35:26
-mul-notes : tie.Need-mul-notes
-mul-notes c = search needs
-
--- src/call.rt:35:17
 array-share-prefix-notes : tie.Need-array-share-prefix-notes
-array-share-prefix-notes c = search needs
+array-share-prefix-notes c =
+    let room : c .before .before .before .before .before .before .score .given .0 .0 .count * 5 ≤ length (c .before .before .before .before .before .before .before .before .before .before .before .words-buffer .result) = omega (arith, c .before .before .before .before .before .before .before .before .before .before .before .words-buffer .ensures, c .before .if3 .left) in
+    let kept = c .before .before .before .before .before .before .before .before .before .read-score .kept .1 .0 in
+    omega arith
 
--- src/call.rt:35:9
 slice-aggregate-words : tie.Need-slice-aggregate-words
-slice-aggregate-words c = ?
+slice-aggregate-words c =
+    let room : c .before .before .before .before .before .before .before .score .given .0 .0 .count * 5 ≤ length (c .before .before .before .before .before .before .before .before .before .before .before .before .words-buffer .result) = omega (arith, c .before .before .before .before .before .before .before .before .before .before .before .before .words-buffer .ensures, c .before .before .if3 .left) in
+    let kept = c .before .before .before .before .before .before .before .before .before .before .read-score .kept .1 .0 in
+    sym (length-take-le _ _ (omega arith))
 
--- src/call.rt:39:9
-cast-play-file : tie.Need-cast-play-file
-cast-play-file c = search needs
-
--- src/call.rt:36:5
 play-file-requires : tie.Need-play-file-requires
-play-file-requires c κs = search needs
+play-file-requires c κs = c .before .before .before .before .before .before .if2 .left
 
--- src/call.rt:19:1
-same-length : tie.Need-same-length
-same-length c = search needs
-
--- src/call.rt:19:1
 returns-5 : tie.Need-returns-5
-returns-5 c = ?
+returns-5 c =
+    let room : c .before .before .before .before .before .before .before .before .before .before .before .before .score .given .0 .0 .count * 5 ≤ length (c .before .before .before .before .before .before .before .before .before .before .before .before .before .before .before .before .before .words-buffer .result) = omega (arith, c .before .before .before .before .before .before .before .before .before .before .before .before .before .before .before .before .before .words-buffer .ensures, c .before .before .before .before .before .before .before .if3 .left) in
+    let said = parsed-score (c .before .before .before .before .before .before .before .before .before .before .before .before .before .before .before .read-score .ensures) (c .before .before .before .before .before .before .before .before .before .before .before .before .score .given .1) in
+    filed-as (file-played _ _ (c .before .before .before .before .before .before .before .before .before .before .before .before .before .before .before .before .before .before .if1 .left) said (c .before .before .before .before .before .before .before .before .before .if2 .left) (c .before .before .before .before .before .before .before .if3 .left) _ (said-words _ said room)) (c .before .before .play-file .ensures)
 
 pub wave-text-spec : {M : Type 1} → statement M
 wave-text-spec =
     tie.close
     (tie.spec
     returns
-    words-buffer-requires
-    slice-aggregate-read-score
-    read-score-requires
-    enum-known-score
-    enum-told
+    (λ c κs. search needs)
+    (λ c. search needs)
+    (λ c κs. search needs)
+    (λ c. search needs)
+    (λ c. search needs)
     returns-2
     returns-3
     returns-4
-    mul-notes
+    (λ c. search needs)
     array-share-prefix-notes
     slice-aggregate-words
-    cast-play-file
+    (λ c. search needs)
     play-file-requires
-    same-length
+    (λ c. search needs)
     returns-5)

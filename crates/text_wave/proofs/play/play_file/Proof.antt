@@ -1,95 +1,92 @@
+-- `text_wave::play::play_file` meets its contract. Assumes nothing.
+use Prim.Native.Nat.{_≤_}
+use mathlib.Core.Path.{_≡_, sym, ap, _∙_}
+use mathlib.Core.List.{[]}
+use native.Mathlib.Omega.{arith}
+use lib.ListN.{length, drop, length-append}
+use lib.Seq.{length-take-le, take-at}
 use borrow.Author.Needs.{needs}
+use Rattle.text_wave.proofs.Filing.{filed-as, played-by}
 use Rattle.text_wave.proofs.play.play_file.Statement.{statement}
 use Rattle.text_wave.proofs.play.play_file.Tie as tie
-use Rattle.text_wave.proofs.play.play_file.Reads as reads
-use Rattle.text_wave.proofs.play.play_file.Lts as lts
-use Rattle.seq.proofs.render_seq.Reads as render-seq-reads
-use Rattle.session.proofs.Session.open.Reads as open-reads
-use Rattle.text_wave.proofs.play.frames_buffer.Reads as frames-buffer-reads
-use Rattle.text_wave.proofs.play.string_buffer.Reads as string-buffer-reads
-use Rattle.text_wave.proofs.play.write_answer.Reads as write-answer-reads
 
--- src/play.rt:45:22
-frames-buffer-requires : tie.Need-frames-buffer-requires
-frames-buffer-requires c κs = search needs
-
--- src/play.rt:46:24
-frames-buffer-requires-2 : tie.Need-frames-buffer-requires-2
-frames-buffer-requires-2 c κs = search needs
-
--- src/play.rt:47:22
-string-buffer-requires : tie.Need-string-buffer-requires
-string-buffer-requires c κs = search needs
-
--- src/play.rt:48:9
-open-requires : tie.Need-open-requires
-open-requires c κs = search needs
-
--- src/play.rt:49:15
 array-borrow-prefix-frames : tie.Need-array-borrow-prefix-frames
-array-borrow-prefix-frames c = search needs
+array-borrow-prefix-frames c =
+    let a = c .before .before .before .before .before .before .args in
+    let l = c .before .before .before .frames-buffer .result in
+    let fits : a .n ≤ length l = omega (arith, c .before .before .before .frames-buffer .ensures, c .before .before .before .before .before .before .pre) in
+    fits
 
--- src/play.rt:49:9
 slice-aggregate-out : tie.Need-slice-aggregate-out
-slice-aggregate-out c = ?
+slice-aggregate-out c =
+    let a = c .before .before .before .before .before .before .before .args in
+    let l = c .before .before .before .before .frames-buffer .result in
+    let fits : a .n ≤ length l = omega (arith, c .before .before .before .before .frames-buffer .ensures, c .before .before .before .before .before .before .before .pre) in
+    sym (length-take-le (a .n) l fits)
 
--- src/play.rt:54:9
-array-share-prefix-lane : tie.Need-array-share-prefix-lane
-array-share-prefix-lane c = search needs
-
--- src/play.rt:54:9
-slice-aggregate-render-seq : tie.Need-slice-aggregate-render-seq
-slice-aggregate-render-seq c = search needs
-
--- src/play.rt:56:9
-slice-aggregate-render-seq-2 : tie.Need-slice-aggregate-render-seq-2
-slice-aggregate-render-seq-2 c = search needs
-
--- src/play.rt:57:9
-slice-aggregate-render-seq-3 : tie.Need-slice-aggregate-render-seq-3
-slice-aggregate-render-seq-3 c = search needs
-
--- src/play.rt:50:9
-render-seq-requires : tie.Need-render-seq-requires
-render-seq-requires c κs = search needs
-
--- src/play.rt:59:36
 array-share-prefix-frames : tie.Need-array-share-prefix-frames
-array-share-prefix-frames c = ?
+array-share-prefix-frames c =
+    let a = c .before .before .before .before .before .before .before .before .before .before .before .before .before .before .before .args in
+    let l = c .before .before .before .before .before .before .before .before .before .before .before .before .frames-buffer .result in
+    let fits : a .n ≤ length l = omega (arith, c .before .before .before .before .before .before .before .before .before .before .before .before .frames-buffer .ensures, c .before .before .before .before .before .before .before .before .before .before .before .before .before .before .before .pre) in
+    let v = c .before .before .before .before .render-seq in
+    let len : length (v .last .1 .1 .1 .1 .0) ≡ a .n = v .kept .1 .1 .1 .1 .0 ∙ length-take-le (a .n) l fits in
+    omega (arith, len, length-append (v .last .1 .1 .1 .1 .0) (drop (a .n) l))
 
--- src/play.rt:59:36
 slice-aggregate-write-answer : tie.Need-slice-aggregate-write-answer
-slice-aggregate-write-answer c = ?
+slice-aggregate-write-answer c =
+    let a = c .before .before .before .before .before .before .before .before .before .before .before .before .before .before .before .before .args in
+    let l = c .before .before .before .before .before .before .before .before .before .before .before .before .before .frames-buffer .result in
+    let fits : a .n ≤ length l = omega (arith, c .before .before .before .before .before .before .before .before .before .before .before .before .before .frames-buffer .ensures, c .before .before .before .before .before .before .before .before .before .before .before .before .before .before .before .before .pre) in
+    let v = c .before .before .before .before .before .render-seq in
+    let len : length (v .last .1 .1 .1 .1 .0) ≡ a .n = v .kept .1 .1 .1 .1 .0 ∙ length-take-le (a .n) l fits in
+    sym (ap length (take-at (v .last .1 .1 .1 .1 .0) (drop (a .n) l) (a .n) len) ∙ len)
 
--- src/play.rt:59:5
 write-answer-requires : tie.Need-write-answer-requires
-write-answer-requires c κs = ?
+write-answer-requires c κs =
+    let a = c .before .before .before .before .before .before .before .before .before .before .before .before .before .before .before .before .before .args in
+    let l = c .before .before .before .before .before .before .before .before .before .before .before .before .before .before .frames-buffer .result in
+    let fits : a .n ≤ length l = omega (arith, c .before .before .before .before .before .before .before .before .before .before .before .before .before .before .frames-buffer .ensures, c .before .before .before .before .before .before .before .before .before .before .before .before .before .before .before .before .before .pre) in
+    let v = c .before .before .before .before .before .before .render-seq in
+    let len : length (v .last .1 .1 .1 .1 .0) ≡ a .n = v .kept .1 .1 .1 .1 .0 ∙ length-take-le (a .n) l fits in
+    let e = ap length (take-at (v .last .1 .1 .1 .1 .0) (drop (a .n) l) (a .n) len) ∙ len in
+    omega (arith, e, c .before .before .before .before .before .before .before .before .before .before .before .before .before .before .before .before .before .pre)
 
--- src/play.rt:40:1
-same-length : tie.Need-same-length
-same-length c = search needs
-
--- src/play.rt:40:1
 returns : tie.Need-returns
-returns c = ?
+returns c =
+    let a = c .before .before .before .before .before .before .before .before .before .before .before .before .before .before .before .before .before .before .before .before .args in
+    let l = c .before .before .before .before .before .before .before .before .before .before .before .before .before .before .before .before .before .frames-buffer .result in
+    let fits : a .n ≤ length l = omega (arith, c .before .before .before .before .before .before .before .before .before .before .before .before .before .before .before .before .before .frames-buffer .ensures, c .before .before .before .before .before .before .before .before .before .before .before .before .before .before .before .before .before .before .before .before .pre) in
+    let v = c .before .before .before .before .before .before .before .before .before .render-seq in
+    let len : length (v .last .1 .1 .1 .1 .0) ≡ a .n = v .kept .1 .1 .1 .1 .0 ∙ length-take-le (a .n) l fits in
+    let heard = take-at (v .last .1 .1 .1 .1 .0) (drop (a .n) l) (a .n) len in
+    let filed = rw heard at (c .before .before .write-answer .ensures) in
+    let room = sym (c .before .before .before .before .before .before .before .before .before .before .before .before .before .before .before .before .frames-buffer2 .ensures) in
+    let string = sym (c .before .before .before .before .before .before .before .before .before .before .before .before .before .before .before .string-buffer .ensures) in
+    let n = length-take-le (a .n) l fits in
+    let opened = c .before .before .before .before .before .before .before .before .before .before .before .before .before .before .«open» .ensures in
+    filed-as
+    (played-by (a .seq) (a .notes .now) (a .n) (a .seed) (a .draw) _ _ _ opened (v .ensures)
+    (λ j. record { seq = a .seq; notes = a .notes .now; lane = []; n = n j; room = room j; string = string j }))
+    filed
 
 pub play-file-spec : {M : Type 1} → statement M
 play-file-spec =
     tie.close
     (tie.spec
-    frames-buffer-requires
-    frames-buffer-requires-2
-    string-buffer-requires
-    open-requires
+    (λ c κs. search needs)
+    (λ c κs. search needs)
+    (λ c κs. search needs)
+    (λ c κs. search needs)
     array-borrow-prefix-frames
     slice-aggregate-out
-    array-share-prefix-lane
-    slice-aggregate-render-seq
-    slice-aggregate-render-seq-2
-    slice-aggregate-render-seq-3
-    render-seq-requires
+    (λ c. search needs)
+    (λ c. search needs)
+    (λ c. search needs)
+    (λ c. search needs)
+    (λ c κs. search needs)
     array-share-prefix-frames
     slice-aggregate-write-answer
     write-answer-requires
-    same-length
+    (λ c. search needs)
     returns)
