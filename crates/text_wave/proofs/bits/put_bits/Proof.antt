@@ -47,7 +47,9 @@ same-length : tie.Need-same-length Inv-loop μ-loop
 same-length c = filled-length (c .before .loop .inv .0)
 
 returns : tie.Need-returns Inv-loop μ-loop
-returns c = filled-part (c .before .loop .inv .0) (omega arith) ∙ ap (λ (l : List ℕ). l ++ drop (length (c .before .before .before .before .args .frames .now)) (c .before .before .before .before .args .bits .now)) (all (c .before .before .before .before .args .frames .now))
+returns c =
+    let b4 = c .before .before .before .before in
+    filled-part (c .before .loop .inv .0) (omega arith) ∙ ap (λ (l : List ℕ). l ++ drop (length (b4 .args .frames .now)) (b4 .args .bits .now)) (all (b4 .args .frames .now))
 
 pub put-bits-spec : {M : Type 1} → statement M
 put-bits-spec =

@@ -17,21 +17,34 @@ returns-2 : tie.Need-returns-2
 returns-2 c = filed-none 15 (file-broken _ _ (c .before .before .before .before .before .before .if1 .left) (parsed-broken (c .before .before .before .read-score .ensures) (c .enum-told .given .1)))
 
 returns-3 : tie.Need-returns-3
-returns-3 c = filed-none 16 (file-frames _ _ (c .before .before .before .before .before .before .before .before .before .if1 .left) (parsed-score (c .before .before .before .before .before .before .read-score .ensures) (c .before .before .before .score .given .1)) (c .if2 .taken))
+returns-3 c =
+    let b6 = c .before .before .before .before .before .before in
+    let b9 = c .before .before .before .before .before .before .before .before .before in
+    filed-none 16 (file-frames _ _ (b9 .if1 .left) (parsed-score (b6 .read-score .ensures) (c .before .before .before .score .given .1)) (c .if2 .taken))
 
 returns-4 : tie.Need-returns-4
-returns-4 c = filed-none 16 (file-notes _ _ (c .before .before .before .before .before .before .before .before .before .before .before .if1 .left) (parsed-score (c .before .before .before .before .before .before .before .before .read-score .ensures) (c .before .before .before .before .before .score .given .1)) (c .before .before .if2 .left) (c .if3 .taken))
+returns-4 c =
+    let b5 = c .before .before .before .before .before in
+    let b8 = c .before .before .before .before .before .before .before .before in
+    let b11 = c .before .before .before .before .before .before .before .before .before .before .before in
+    filed-none 16 (file-notes _ _ (b11 .if1 .left) (parsed-score (b8 .read-score .ensures) (b5 .score .given .1)) (c .before .before .if2 .left) (c .if3 .taken))
 
 array-share-prefix-notes : tie.Need-array-share-prefix-notes
 array-share-prefix-notes c =
-    let room : c .before .before .before .before .before .before .score .given .0 .0 .count * 5 ≤ length (c .before .before .before .before .before .before .before .before .before .before .before .words-buffer .result) = omega (arith, c .before .before .before .before .before .before .before .before .before .before .before .words-buffer .ensures, c .before .if3 .left) in
-    let kept = c .before .before .before .before .before .before .before .before .before .read-score .kept .1 .0 in
+    let b6 = c .before .before .before .before .before .before in
+    let b9 = c .before .before .before .before .before .before .before .before .before in
+    let b11 = c .before .before .before .before .before .before .before .before .before .before .before in
+    let room : b6 .score .given .0 .0 .count * 5 ≤ length (b11 .words-buffer .result) = omega (arith, b11 .words-buffer .ensures, c .before .if3 .left) in
+    let kept = b9 .read-score .kept .1 .0 in
     omega arith
 
 slice-aggregate-words : tie.Need-slice-aggregate-words
 slice-aggregate-words c =
-    let room : c .before .before .before .before .before .before .before .score .given .0 .0 .count * 5 ≤ length (c .before .before .before .before .before .before .before .before .before .before .before .before .words-buffer .result) = omega (arith, c .before .before .before .before .before .before .before .before .before .before .before .before .words-buffer .ensures, c .before .before .if3 .left) in
-    let kept = c .before .before .before .before .before .before .before .before .before .before .read-score .kept .1 .0 in
+    let b7 = c .before .before .before .before .before .before .before in
+    let b10 = c .before .before .before .before .before .before .before .before .before .before in
+    let b12 = c .before .before .before .before .before .before .before .before .before .before .before .before in
+    let room : b7 .score .given .0 .0 .count * 5 ≤ length (b12 .words-buffer .result) = omega (arith, b12 .words-buffer .ensures, c .before .before .if3 .left) in
+    let kept = b10 .read-score .kept .1 .0 in
     sym (length-take-le _ _ (omega arith))
 
 play-file-requires : tie.Need-play-file-requires
@@ -39,9 +52,15 @@ play-file-requires c κs = c .before .before .before .before .before .before .if
 
 returns-5 : tie.Need-returns-5
 returns-5 c =
-    let room : c .before .before .before .before .before .before .before .before .before .before .before .before .score .given .0 .0 .count * 5 ≤ length (c .before .before .before .before .before .before .before .before .before .before .before .before .before .before .before .before .before .words-buffer .result) = omega (arith, c .before .before .before .before .before .before .before .before .before .before .before .before .before .before .before .before .before .words-buffer .ensures, c .before .before .before .before .before .before .before .if3 .left) in
-    let said = parsed-score (c .before .before .before .before .before .before .before .before .before .before .before .before .before .before .before .read-score .ensures) (c .before .before .before .before .before .before .before .before .before .before .before .before .score .given .1) in
-    filed-as (file-played _ _ (c .before .before .before .before .before .before .before .before .before .before .before .before .before .before .before .before .before .before .if1 .left) said (c .before .before .before .before .before .before .before .before .before .if2 .left) (c .before .before .before .before .before .before .before .if3 .left) _ (said-words _ said room)) (c .before .before .play-file .ensures)
+    let b7 = c .before .before .before .before .before .before .before in
+    let b9 = c .before .before .before .before .before .before .before .before .before in
+    let b12 = c .before .before .before .before .before .before .before .before .before .before .before .before in
+    let b15 = c .before .before .before .before .before .before .before .before .before .before .before .before .before .before .before in
+    let b17 = c .before .before .before .before .before .before .before .before .before .before .before .before .before .before .before .before .before in
+    let b18 = c .before .before .before .before .before .before .before .before .before .before .before .before .before .before .before .before .before .before in
+    let room : b12 .score .given .0 .0 .count * 5 ≤ length (b17 .words-buffer .result) = omega (arith, b17 .words-buffer .ensures, b7 .if3 .left) in
+    let said = parsed-score (b15 .read-score .ensures) (b12 .score .given .1) in
+    filed-as (file-played _ _ (b18 .if1 .left) said (b9 .if2 .left) (b7 .if3 .left) _ (said-words _ said room)) (c .before .before .play-file .ensures)
 
 pub wave-text-spec : {M : Type 1} → statement M
 wave-text-spec =

@@ -1,8 +1,6 @@
 -- `text_wave::frames::write_frames` meets its contract. Assumes nothing.
 use mathlib.Core.Path.{sym, ap, _∙_}
-use native.Mathlib.Omega.{arith}
 use lib.ListN.{length, take, length-map}
-use lib.Seq.{length-take-le}
 use Rattle.text_listing.specs.Lines.{frameBits}
 use borrow.Author.Needs.{needs}
 use Rattle.text_wave.proofs.Patterns.{taken}

@@ -26,45 +26,60 @@ slice-aggregate-out c =
 
 array-share-prefix-frames : tie.Need-array-share-prefix-frames
 array-share-prefix-frames c =
-    let a = c .before .before .before .before .before .before .before .before .before .before .before .before .before .before .before .args in
-    let l = c .before .before .before .before .before .before .before .before .before .before .before .before .frames-buffer .result in
-    let fits : a .n ≤ length l = omega (arith, c .before .before .before .before .before .before .before .before .before .before .before .before .frames-buffer .ensures, c .before .before .before .before .before .before .before .before .before .before .before .before .before .before .before .pre) in
-    let v = c .before .before .before .before .render-seq in
+    let b4 = c .before .before .before .before in
+    let b12 = c .before .before .before .before .before .before .before .before .before .before .before .before in
+    let b15 = c .before .before .before .before .before .before .before .before .before .before .before .before .before .before .before in
+    let a = b15 .args in
+    let l = b12 .frames-buffer .result in
+    let fits : a .n ≤ length l = omega (arith, b12 .frames-buffer .ensures, b15 .pre) in
+    let v = b4 .render-seq in
     let len : length (v .last .1 .1 .1 .1 .0) ≡ a .n = v .kept .1 .1 .1 .1 .0 ∙ length-take-le (a .n) l fits in
     omega (arith, len, length-append (v .last .1 .1 .1 .1 .0) (drop (a .n) l))
 
 slice-aggregate-write-answer : tie.Need-slice-aggregate-write-answer
 slice-aggregate-write-answer c =
-    let a = c .before .before .before .before .before .before .before .before .before .before .before .before .before .before .before .before .args in
-    let l = c .before .before .before .before .before .before .before .before .before .before .before .before .before .frames-buffer .result in
-    let fits : a .n ≤ length l = omega (arith, c .before .before .before .before .before .before .before .before .before .before .before .before .before .frames-buffer .ensures, c .before .before .before .before .before .before .before .before .before .before .before .before .before .before .before .before .pre) in
-    let v = c .before .before .before .before .before .render-seq in
+    let b5 = c .before .before .before .before .before in
+    let b13 = c .before .before .before .before .before .before .before .before .before .before .before .before .before in
+    let b16 = c .before .before .before .before .before .before .before .before .before .before .before .before .before .before .before .before in
+    let a = b16 .args in
+    let l = b13 .frames-buffer .result in
+    let fits : a .n ≤ length l = omega (arith, b13 .frames-buffer .ensures, b16 .pre) in
+    let v = b5 .render-seq in
     let len : length (v .last .1 .1 .1 .1 .0) ≡ a .n = v .kept .1 .1 .1 .1 .0 ∙ length-take-le (a .n) l fits in
     sym (ap length (take-at (v .last .1 .1 .1 .1 .0) (drop (a .n) l) (a .n) len) ∙ len)
 
 write-answer-requires : tie.Need-write-answer-requires
 write-answer-requires c κs =
-    let a = c .before .before .before .before .before .before .before .before .before .before .before .before .before .before .before .before .before .args in
-    let l = c .before .before .before .before .before .before .before .before .before .before .before .before .before .before .frames-buffer .result in
-    let fits : a .n ≤ length l = omega (arith, c .before .before .before .before .before .before .before .before .before .before .before .before .before .before .frames-buffer .ensures, c .before .before .before .before .before .before .before .before .before .before .before .before .before .before .before .before .before .pre) in
-    let v = c .before .before .before .before .before .before .render-seq in
+    let b6 = c .before .before .before .before .before .before in
+    let b14 = c .before .before .before .before .before .before .before .before .before .before .before .before .before .before in
+    let b17 = c .before .before .before .before .before .before .before .before .before .before .before .before .before .before .before .before .before in
+    let a = b17 .args in
+    let l = b14 .frames-buffer .result in
+    let fits : a .n ≤ length l = omega (arith, b14 .frames-buffer .ensures, b17 .pre) in
+    let v = b6 .render-seq in
     let len : length (v .last .1 .1 .1 .1 .0) ≡ a .n = v .kept .1 .1 .1 .1 .0 ∙ length-take-le (a .n) l fits in
     let e = ap length (take-at (v .last .1 .1 .1 .1 .0) (drop (a .n) l) (a .n) len) ∙ len in
-    omega (arith, e, c .before .before .before .before .before .before .before .before .before .before .before .before .before .before .before .before .before .pre)
+    omega (arith, e, b17 .pre)
 
 returns : tie.Need-returns
 returns c =
-    let a = c .before .before .before .before .before .before .before .before .before .before .before .before .before .before .before .before .before .before .before .before .args in
-    let l = c .before .before .before .before .before .before .before .before .before .before .before .before .before .before .before .before .before .frames-buffer .result in
-    let fits : a .n ≤ length l = omega (arith, c .before .before .before .before .before .before .before .before .before .before .before .before .before .before .before .before .before .frames-buffer .ensures, c .before .before .before .before .before .before .before .before .before .before .before .before .before .before .before .before .before .before .before .before .pre) in
-    let v = c .before .before .before .before .before .before .before .before .before .render-seq in
+    let b9 = c .before .before .before .before .before .before .before .before .before in
+    let b14 = c .before .before .before .before .before .before .before .before .before .before .before .before .before .before in
+    let b15 = c .before .before .before .before .before .before .before .before .before .before .before .before .before .before .before in
+    let b16 = c .before .before .before .before .before .before .before .before .before .before .before .before .before .before .before .before in
+    let b17 = c .before .before .before .before .before .before .before .before .before .before .before .before .before .before .before .before .before in
+    let b20 = c .before .before .before .before .before .before .before .before .before .before .before .before .before .before .before .before .before .before .before .before in
+    let a = b20 .args in
+    let l = b17 .frames-buffer .result in
+    let fits : a .n ≤ length l = omega (arith, b17 .frames-buffer .ensures, b20 .pre) in
+    let v = b9 .render-seq in
     let len : length (v .last .1 .1 .1 .1 .0) ≡ a .n = v .kept .1 .1 .1 .1 .0 ∙ length-take-le (a .n) l fits in
     let heard = take-at (v .last .1 .1 .1 .1 .0) (drop (a .n) l) (a .n) len in
     let filed = rw heard at (c .before .before .write-answer .ensures) in
-    let room = sym (c .before .before .before .before .before .before .before .before .before .before .before .before .before .before .before .before .frames-buffer2 .ensures) in
-    let string = sym (c .before .before .before .before .before .before .before .before .before .before .before .before .before .before .before .string-buffer .ensures) in
+    let room = sym (b16 .frames-buffer2 .ensures) in
+    let string = sym (b15 .string-buffer .ensures) in
     let n = length-take-le (a .n) l fits in
-    let opened = c .before .before .before .before .before .before .before .before .before .before .before .before .before .before .«open» .ensures in
+    let opened = b14 .«open» .ensures in
     filed-as
     (played-by (a .seq) (a .notes .now) (a .n) (a .seed) (a .draw) _ _ _ opened (v .ensures)
     (λ j. record { seq = a .seq; notes = a .notes .now; lane = []; n = n j; room = room j; string = string j }))
