@@ -2,7 +2,7 @@
 
 use crate::board_random::{list, shaped, words, SHAPES};
 use crate::board_reference::{run as run_reference, Board, Operation, ACCEPTED, FULL};
-use crate::engine::{in_threads, Count, SHOWN, THREADS};
+use crate::engine::{in_threads, threads, Count, SHOWN};
 use crate::harness::h_board;
 use crate::lent::Lent;
 use crate::random::Source;
@@ -111,7 +111,7 @@ fn share(first: u64, count: u64) -> Seen {
         shapes(&mut seen);
     }
     let mut i = first;
-    while seen.operations < count / THREADS as u64 {
+    while seen.operations < count / threads() as u64 {
         let mut s = Source::new(i);
         let length = 1 + s.below(2 * LENGTH) as usize;
         let operations = list(&mut s, length);
@@ -123,7 +123,7 @@ fn share(first: u64, count: u64) -> Seen {
             _ => all + 2,
         };
         seen.add(&format!("list {i}"), &words, room);
-        i += THREADS as u64;
+        i += threads() as u64;
     }
     seen
 }
