@@ -1,7 +1,9 @@
 //! Every comparison in one run, with one table at the end.
 
 use crate::engine::Count;
-use crate::{boards, helpers, kernels, note_calls, progress, random, score_calls, texts, voices, wave_files};
+use crate::{
+    boards, helpers, kernels, note_calls, progress, random, score_calls, texts, voices, wave_files,
+};
 use std::process::{Command, Stdio};
 
 const DAMAGED: &str = concat!(env!("CARGO_MANIFEST_DIR"), "/robust/run");
