@@ -36,5 +36,7 @@ pub record Other (name : ℕ) (body pad : List ℕ) : Type 0 where
 pub data Row : Met → List ℕ → Met → Type 0 where
   none : {m : Met} → Row m [] m
   other : {m m′ : Met} {bs : List ℕ} {name : ℕ} {body pad : List ℕ} → Other name body pad → Row m bs m′ → Row m (chunk name body ++ (pad ++ bs)) m′
-  fmt : {count : Given} {m′ : Met} {bs : List ℕ} {rate : ℕ} {body : List ℕ} → Fmt rate body → Row (record { rate = Is rate; count = count }) bs m′ → Row (record { rate = Missing; count = count }) (chunk FMT body ++ bs) m′
-  fact : {rate : Given} {m′ : Met} {bs : List ℕ} {count : ℕ} {body : List ℕ} → Fact count body → Row (record { rate = rate; count = Is count }) bs m′ → Row (record { rate = rate; count = Missing }) (chunk FACT body ++ bs) m′
+  fmt : {count : Given} {m′ : Met} {bs : List ℕ} {rate : ℕ} {body : List ℕ} → Fmt rate body
+      → Row (record { rate = Is rate; count = count }) bs m′ → Row (record { rate = Missing; count = count }) (chunk FMT body ++ bs) m′
+  fact : {rate : Given} {m′ : Met} {bs : List ℕ} {count : ℕ} {body : List ℕ} → Fact count body
+      → Row (record { rate = rate; count = Is count }) bs m′ → Row (record { rate = rate; count = Missing }) (chunk FACT body ++ bs) m′

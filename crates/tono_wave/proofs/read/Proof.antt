@@ -22,7 +22,8 @@ cast-result : tie.Need-cast-result
 cast-result c =
     let b5 = c .before .before .before .before .before in
     let b9 = b5 .before .before .before .before in
-    length-fits (b9) _ (samples-fit (b5 .read-wave .ensures) _ _ (c .before .found .given .1))
+    let fits = samples-fit (b5 .read-wave .ensures) _ _ (c .before .found .given .1) in
+    length-fits (b9) _ (omega (arith, fits, b5 .read-wave .kept .1 .0))
 
 returns : tie.Need-returns
 returns c =

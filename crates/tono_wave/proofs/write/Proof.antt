@@ -21,7 +21,8 @@ cast-result : tie.Need-cast-result
 cast-result c =
     let b5 = c .before .before .before .before .before in
     let b9 = b5 .before .before .before .before in
-    length-fits (b9) _ (bytes-fit (b5 .write-wave .ensures) _ (c .before .length .given .1))
+    let fits = bytes-fit (b5 .write-wave .ensures) _ (c .before .length .given .1) in
+    length-fits (b9) _ (omega (arith, fits, b5 .write-wave .kept .1 .1 .0))
 
 returns : tie.Need-returns
 returns c =

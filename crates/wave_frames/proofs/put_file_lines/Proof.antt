@@ -43,7 +43,8 @@ returns-3 c =
     let b10 = c .before .before .before .before .before .before .before .before .before .before in
     let b12 = c .before .before .before .before .before .before .before .before .before .before .before .before in
     let b16 = c .before .before .before .before .before .before .before .before .before .before .before .before .before .before .before .before in
-    printed-as (shown-refusal (b10 .read-wave .ensures) (b16 .pre .0) (b12 .if1 .left) _ (b6 .refusal .given .1) (c .before .before .before .number .ensures)) (c .before .before .put-refusal2 .ensures)
+    let line = shown-refusal (b10 .read-wave .ensures) (b16 .pre .0) (b12 .if1 .left) _ (b6 .refusal .given .1) (c .before .before .before .number .ensures) in
+    printed-as line (c .before .before .put-refusal2 .ensures)
 
 pub put-file-lines-spec : {M : Type 1} → statement M
 put-file-lines-spec =
