@@ -9,12 +9,14 @@ use Rattle.wave.proofs.file_input.Tie as tie
 
 returns : tie.Need-returns
 returns c =
-    let score = c .before .before .before .before .before .before .before .read-full .last .1 .0 in
-    let file = c .before .before .before .before .before .before .before .before .before .before .before .args .file .now in
-    let within = c .before .before .before .before .before .before .before .read-full .ensures .0 in
+    let b7 = c .before .before .before .before .before .before .before in
+    let b11 = c .before .before .before .before .before .before .before .before .before .before .before in
+    let score = b7 .read-full .last .1 .0 in
+    let file = b11 .args .file .now in
+    let within = b7 .read-full .ensures .0 in
     let filed = c .before .before .wave-text .ensures in
-    let more : 65536 < length score = omega (arith, c .before .before .before .before .before .before .before .read-full .kept .1 .0, c .before .before .before .before .before .before .before .before .before .before .before .pre .0) in
-    (input-filed score file _ _ within filed more (c .before .before .before .before .before .before .before .before .before .before .before .pre .1), written-fits score file _ _ within filed)
+    let more : 65536 < length score = omega (arith, b7 .read-full .kept .1 .0, b11 .pre .0) in
+    (input-filed score file _ _ within filed more (b11 .pre .1), written-fits score file _ _ within filed)
 
 pub file-input-spec : {M : Type 1} → statement M
 file-input-spec =
