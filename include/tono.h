@@ -1,4 +1,4 @@
-/* tono.h: plays a text score and computes exponentials, from C or C++.
+/* tono.h: plays a text score, computes exponentials, and writes and reads WAVE files, from C or C++.
  *
  * Link libtono.a, which `rt staticlib tono` writes to target/staticlib. It needs nothing but memcpy and
  * memset of the C library. x86-64 Linux. The header compiles as C99 and later, and as C++. */
@@ -48,7 +48,9 @@ enum tono_refusal {
     TONO_REFUSED_REPLY = 23,
     TONO_REFUSED_TONE = 30,
     TONO_REFUSED_TEMPO_POINTS = 31,
-    TONO_REFUSED_TEMPO_ORDER = 32
+    TONO_REFUSED_TEMPO_ORDER = 32,
+    TONO_REFUSED_SAMPLE_FORMAT = 36,
+    TONO_REFUSED_STRUCTURE = 37
 };
 
 /* What a refusal's number means, in one line; NULL for a number that is none. */
@@ -74,10 +76,12 @@ static inline const char *tono_reason(int number)
     case TONO_REFUSED_NOTE_BUFFER: return "the note buffer is shorter than the output";
     case TONO_REFUSED_STRING_BUFFER: return "the string buffer is shorter than 9,600 values";
     case TONO_REFUSED_DRAWS: return "the draw count would pass 2^64 - 1";
-    case TONO_REFUSED_REPLY: return "the reply buffer is shorter than the listing";
+    case TONO_REFUSED_REPLY: return "the reply, file or sample buffer is too short for what is written to it";
     case TONO_REFUSED_TONE: return "a quarter tone's number is above 255";
     case TONO_REFUSED_TEMPO_POINTS: return "there are more than 64 tempo points, or one has a zero denominator, a numerator beyond 1,000,000,000 or a tempo not from 1 to 1,000";
     case TONO_REFUSED_TEMPO_ORDER: return "the first tempo point is not at beat 0, or a point's beat is not after the one before it";
+    case TONO_REFUSED_SAMPLE_FORMAT: return "the file's tag, channel count or sample width is not 3, 1 and 32";
+    case TONO_REFUSED_STRUCTURE: return "the file's chunks are not those of a WAVE file of this form";
     default: return NULL;
     }
 }
@@ -141,6 +145,42 @@ int64_t tono_play(const uint8_t *score, size_t score_len, uint8_t *reply, size_t
  * the same time. Like tono_play it needs the floating-point mode that a program starts with: rounding to
  * nearest, and subnormals kept. A host that sets FTZ or DAZ, or is linked with -ffast-math, loses them. */
 double tono_exp(double x);
+
+/* ---- WAVE files
+ *
+ * Mono files of 32-bit float samples: RIFF, an fmt chunk of 18 bytes with tag 3, a fact chunk with the
+ * number of samples, a data chunk; 58 bytes before the samples, little-endian. A sample is passed as the
+ * bit pattern of its float, so that every NaN keeps its bits. Buffers are lent as to tono_play, and you must
+ * make sure of the same; a pointer to samples also has the alignment of a uint32_t. The calls keep no state,
+ * use a few hundred bytes of stack, allocate nothing, make no system call and always return.
+ *
+ * A call that is refused returns minus a number of enum tono_refusal and changes nothing:
+ *   - TONO_REFUSED_RATE, TONO_REFUSED_FRAMES: writing, a rate outside 8,000 to 192,000 or more than 16,777,216
+ *     samples
+ *   - TONO_REFUSED_SAMPLE_FORMAT: reading, a tag, channel count or sample width other than 3, 1 and 32
+ *   - TONO_REFUSED_STRUCTURE: reading, a file that does not begin with RIFF, its length less 8 and WAVE; a chunk
+ *     past the end of the file; a second fmt or fact; fmt, fact or data missing; fmt not of 18 bytes, fact
+ *     not of 4, or data not of 4 for each sample that fact counts
+ *   - TONO_REFUSED_REPLY: the file buffer or the sample buffer is too short */
+
+/* How many bytes the file of so many samples has. */
+#define TONO_WAVE_BYTES(count) (58 + 4 * (size_t)(count))
+
+/* Writes the file of samples[0] .. samples[count - 1] from file[0] on and returns its length in bytes. The
+ * bytes of the buffer after it are left as they were. Refused, in this order, with RATE, FRAMES, REPLY. */
+int64_t tono_wave_write(uint32_t rate, const uint32_t *samples, size_t count, uint8_t *file,
+                        size_t file_len);
+
+/* Reads the file in file[0] .. file[file_len - 1]: puts its rate in *rate and its samples from samples[0]
+ * on, and returns their number. room is how many samples the buffer holds; those after the last one are left
+ * as they were.
+ *
+ * Chunks of other names before data are skipped, with their padding byte if their length is odd. Other fields
+ * of fmt, and what follows data, are ignored; the rate is not judged. The first fault in the file decides
+ * between STRUCTURE and SAMPLE_FORMAT, and the size of a chunk is judged before its content. Missing chunks
+ * and the length of data are judged after that, and the room last. */
+int64_t tono_wave_read(const uint8_t *file, size_t file_len, uint32_t *rate, uint32_t *samples,
+                       size_t room);
 
 #ifdef __cplusplus
 }

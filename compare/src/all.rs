@@ -3,18 +3,18 @@
 use crate::engine::Count;
 use crate::{
     boards, helpers, kernels, mapped_calls, note_calls, progress, random, score_calls, texts,
-    tones, voices,
+    tones, voices, wave_files,
 };
 use std::process::{Command, Stdio};
 
 const DAMAGED: &str = concat!(env!("CARGO_MANIFEST_DIR"), "/robust/run");
-/// How many damaged texts go through the host in C; `robust/run` alone tries ten times as many.
+/// How many damaged texts, and files, go through the host in C; `robust/run` alone tries ten times as many.
 const TEXTS: u64 = 1_000_000;
 
 /// One row of the table: what is compared, with what, and the run of one case in a number.
 type Part = (&'static str, &'static str, fn(u64) -> Count);
 
-const PARTS: [Part; 10] = [
+const PARTS: [Part; 12] = [
     ("float helpers", "Rust's operations", helpers::run),
     ("kernels", "det.rs and the request's words", |scale| {
         kernels::run_all(kernels::COUNT.div_ceil(scale), scale)
@@ -38,7 +38,13 @@ const PARTS: [Part; 10] = [
         texts::run(texts::COUNT.div_ceil(scale))
     }),
     ("damaged texts from C", "01's text call", |scale| {
-        damaged(TEXTS.div_ceil(scale))
+        damaged(&[], TEXTS.div_ceil(scale))
+    }),
+    ("WAVE files", "02's Card 12", |scale| {
+        wave_files::run(wave_files::COUNT.div_ceil(scale))
+    }),
+    ("damaged WAVE files from C", "02's Card 12", |scale| {
+        damaged(&["waves"], TEXTS.div_ceil(scale))
     }),
     ("operations on a board", "the request's words", |scale| {
         boards::run(boards::COUNT.div_ceil(scale))
@@ -46,8 +52,9 @@ const PARTS: [Part; 10] = [
 ];
 
 /// robust/run, whose last line is 'N differ in all'. A run that breaks off counts as all differing.
-fn damaged(count: u64) -> Count {
+fn damaged(of: &[&str], count: u64) -> Count {
     let run = Command::new(DAMAGED)
+        .args(of)
         .arg(count.to_string())
         .stderr(Stdio::inherit())
         .output();

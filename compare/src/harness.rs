@@ -49,6 +49,20 @@ mod raw {
             answers: *mut u32,
             answers_len: usize,
         ) -> usize;
+        pub fn tono_wave_write(
+            rate: u32,
+            samples: *const u32,
+            count: usize,
+            file: *mut u8,
+            file_len: usize,
+        ) -> i64;
+        pub fn tono_wave_read(
+            file: *const u8,
+            file_len: usize,
+            rate: *mut u32,
+            samples: *mut u32,
+            room: usize,
+        ) -> i64;
         pub fn h_note(
             rate: u32,
             wave: u32,
@@ -202,4 +216,18 @@ pub fn tono_play(score: &[u8], reply: &mut [u8]) -> i64 {
 pub fn h_board(ops: &[u32], answers: &mut [u32]) -> usize {
     // As above.
     unsafe { raw::h_board(ops.as_ptr(), ops.len(), answers.as_mut_ptr(), answers.len()) }
+}
+
+/// The file's length, or minus a refusal's number.
+pub fn tono_wave_write(rate: u32, samples: &[u32], file: &mut [u8]) -> i64 {
+    let (count, file_len) = (samples.len(), file.len());
+    // As above.
+    unsafe { raw::tono_wave_write(rate, samples.as_ptr(), count, file.as_mut_ptr(), file_len) }
+}
+
+/// The number of samples, or minus a refusal's number.
+pub fn tono_wave_read(file: &[u8], rate: &mut u32, samples: &mut [u32]) -> i64 {
+    let (file_len, room) = (file.len(), samples.len());
+    // As above.
+    unsafe { raw::tono_wave_read(file.as_ptr(), file_len, rate, samples.as_mut_ptr(), room) }
 }

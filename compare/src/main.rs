@@ -42,6 +42,7 @@ mod score_cases;
 mod score_kinds;
 mod score_random;
 mod score_vectors;
+mod stream;
 mod tempo_points;
 mod text;
 mod text_cases;
@@ -55,6 +56,11 @@ mod tried;
 mod vectors;
 mod voice_vectors;
 mod voices;
+mod wave_files;
+mod wave_random;
+mod wave_reference;
+mod wave_stream;
+mod wave_vectors;
 mod waves;
 
 use engine::Count;
@@ -83,13 +89,16 @@ const USAGE: &str =
        compare texts [COUNT]     COUNT text scores and damaged ones, 10^6 by default
        compare boards [COUNT]    COUNT operations on a board in lists, 10^7 by default
        compare board-vectors     writes the replay files of crates/board_vectors
+       compare wave-files [COUNT] COUNT WAVE files, most of them damaged, 10^6 by default
        compare cases FIRST COUNT damaged text scores with their answers, for robust/host.c
+       compare wave-cases FIRST COUNT calls on WAVE files with their answers, for robust/wave_host.c
        compare listing           the listing that 01 asks of the text score on standard input
        compare example           README's score that slows down, by the original
        compare groove-vectors    writes the replay files of crates/groove_vectors
        compare voice-vectors     writes the replay files of crates/voice_vectors
        compare score-vectors     writes the replay files of crates/score_vectors
        compare replay-vectors    writes the replay files of crates/replay
+       compare wave-vectors      writes the replay files of crates/wave_vectors
 COMPARE_THREADS says how many threads compare; without it as many as the machine runs at once.";
 
 fn main() -> ExitCode {
@@ -125,7 +134,10 @@ fn main() -> ExitCode {
         ["boards"] => status(boards::run(boards::COUNT)),
         ["boards", count] => counted(count, boards::run),
         ["board-vectors"] => written(board_vectors::run()),
-        ["cases", first, count] => streamed(first, count),
+        ["wave-files"] => status(wave_files::run(wave_files::COUNT)),
+        ["wave-files", count] => counted(count, wave_files::run),
+        ["cases", first, count] => streamed(first, count, text_stream::run),
+        ["wave-cases", first, count] => streamed(first, count, wave_stream::run),
         ["listing"] => written(listing()),
         ["example"] => done(example::run()),
         ["libm"] => done(libm::run(1)),
@@ -134,6 +146,7 @@ fn main() -> ExitCode {
         ["voice-vectors"] => written(voice_vectors::run()),
         ["score-vectors"] => written(score_vectors::run()),
         ["replay-vectors"] => written(replay_vectors::run()),
+        ["wave-vectors"] => written(wave_vectors::run()),
         ["groove-vectors"] => written(groove_vectors::run()),
         _ => usage(),
     }
@@ -162,9 +175,9 @@ fn seeded(scale: &str, seed: &str) -> ExitCode {
     }
 }
 
-fn streamed(first: &str, count: &str) -> ExitCode {
+fn streamed(first: &str, count: &str, run: impl Fn(u64, u64) -> io::Result<()>) -> ExitCode {
     match (first.parse(), count.parse()) {
-        (Ok(first), Ok(count)) => written(text_stream::run(first, count)),
+        (Ok(first), Ok(count)) => written(run(first, count)),
         _ => usage(),
     }
 }

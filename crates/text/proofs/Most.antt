@@ -107,7 +107,7 @@ module _ (seed : ℕ) (s : Score) where
       mixed-by (skips s m) t _ (mixed-length (p .start) (framesIn (aloneOf s m (stateAfter seed (t .x)))) (s .seq .env) (p .len) (rateIn s) (p .gain) (t .frames)))
       (λ e none t. ap (λ (u : Taken). length (u .frames)) (none .other t (takenNote seed s t)))
 
-  taken-length : (d k : ℕ) → length (takenAfter seed s d k .frames) ≡ s .n
+  pub taken-length : (d k : ℕ) → length (takenAfter seed s d k .frames) ≡ s .n
   unfolding takenAfter
   taken-length d zero = silence-length (s .n)
   taken-length d (suc k) = note-length (noteIn s k) (takenAfter seed s d k) ∙ taken-length d k

@@ -7,9 +7,9 @@ use native.Mathlib.Omega.{arith}
 use native.Mathlib.Nat.{zero-add}
 use borrow.Author.Tests.{lt-ltb, le-ltb, ltb-false}
 use lib.Dec.{ltb}
-use lib.ListN.{length, take, drop, length-append}
+use lib.ListN.{length, take, drop}
 use Rattle.laws.proofs.If.{if-true, if-false}
-use Rattle.text_listing.specs.Printed.{Printed, put}
+use Rattle.text_listing.specs.Printed.{Printed}
 use Rattle.text_listing.proofs.Put.{printed-text}
 use Rattle.text.specs.Listing.{listing}
 use Rattle.text.specs.Reply.{tooShort, replyOf, bytesAfter, Replied}
@@ -49,11 +49,6 @@ module _ {w : ℕ} (n m : ℕ) (some : w ≡ cond (ltb m n) 0 n) where
 
   pub written-most : (l : ℕ) → n ≤ l → w ≤ l
   written-most l h = rw some (written-least (ltb m n) n l (λ _. h))
-
--- what was printed fits on its page
-pub printed-fits : {l page₀ page : List ℕ} {n : ℕ} → Printed l 0 page₀ n page → n ≤ length page
-unfolding put
-printed-fits {l} {page₀} {page} {n} p = omega (arith, p .after, ap length (p .bytes), length-append l (drop (0 + length l) page₀))
 
 -- ---- what a reply says
 listed-is : (b : Bool) (n m : ℕ) → Listing n ≡ cond b Short (Listing m) → (b ≡ false) × (n ≡ m)

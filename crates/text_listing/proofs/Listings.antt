@@ -5,10 +5,10 @@ use mathlib.Core.Path.{_≡_, refl, ap, _∙_}
 use mathlib.Core.List.{List, _++_}
 use native.Mathlib.Omega.{arith}
 use native.Mathlib.Numerals.{add-one}
-use lib.ListN.{length, getD, length-append}
-use lib.Ieee.{Float, nan}
+use lib.ListN.{length, length-append}
+use lib.Ieee.{Float}
 use Rattle.text_listing.specs.Digits.{hexText, decimalText}
-use Rattle.text_listing.specs.Lines.{lineEnd, tabbedText, printedG, printedF, printedR, frameBits, frameLines, listingOf}
+use Rattle.text_listing.specs.Lines.{lineEnd, tabbedText, printedG, printedF, printedR, patternLines, frameLines, listingOf}
 use Rattle.text_listing.specs.Printed.{Room, Printed, FramesRoom}
 use Rattle.text_listing.proofs.Put.{printed-none, printed-as, room-next, printed-both}
 use Rattle.text_listing.proofs.Numbers.{hex-length, decimal-length}
@@ -38,21 +38,20 @@ refusal-length number h =
 pub refusal-room : (number : ℕ) {out : List ℕ} → number < 2 ^ 32 → 13 ≤ length out → Room (printedR number) 0 out
 refusal-room number h l = let m = refusal-length number h in record { fits = omega arith }
 
-frames-length : (n : ℕ) (frames : List Float) → n ≤ 2048 → length (frameLines n frames) ≤ 16 * n
-unfolding frameLines
-frames-length zero frames h = omega arith
-frames-length (suc n) frames h =
-    let b = frameBits (getD frames n nan) in
-    let a = length-append (frameLines n frames) (printedF n b) in
-    let l = frames-length n frames (omega arith) in
-    let m = frame-length n b (omega arith) in
+lines-length : (n : ℕ) (bits : ℕ → ℕ) → n ≤ 2048 → length (patternLines n bits) ≤ 16 * n
+unfolding patternLines
+lines-length zero bits h = omega arith
+lines-length (suc n) bits h =
+    let a = length-append (patternLines n bits) (printedF n (bits n)) in
+    let l = lines-length n bits (omega arith) in
+    let m = frame-length n (bits n) (omega arith) in
     omega arith
 
 pub listing-length : (state draw : ℕ) (frames : List Float) → draw < 2 ^ 64 → length frames ≤ 2048 → length (listingOf state draw frames) ≤ 40 + 16 * length frames
 listing-length state draw frames h l =
     let a = length-append (printedG state draw) (frameLines (length frames) frames) in
     let b = opening-length state draw h in
-    let c = frames-length (length frames) frames l in
+    let c : length (frameLines (length frames) frames) ≤ 16 * length frames = lines-length (length frames) _ l in
     omega arith
 
 -- the rooms of a listing and of its frames, after its opening
@@ -63,40 +62,38 @@ module _ (state draw : ℕ) (frames : List Float) {out : List ℕ} (h : draw < 2
   pub frames-room : {at : ℕ} {out₁ : List ℕ} → length out₁ ≡ length out → Printed (printedG state draw) 0 out at out₁ → FramesRoom (length frames) at (length out₁)
   frames-room s p = let l = opening-length state draw h in record { frames = r .frames; bytes = omega (arith, r .bytes, p .after) }
 
--- Before frame i.
-pub record Listed (frames : List Float) (start : ℕ) (out₀ : List ℕ) (i at : ℕ) (out : List ℕ) : Type 0 where
-  pub within : i ≤ length frames
-  pub room : FramesRoom (length frames) start (length out₀)
+-- Before line i of n.
+pub record Listed (bits : ℕ → ℕ) (n start : ℕ) (out₀ : List ℕ) (i at : ℕ) (out : List ℕ) : Type 0 where
+  pub within : i ≤ n
+  pub room : FramesRoom n start (length out₀)
   pub same : length out ≡ length out₀
-  pub is : Printed (frameLines i frames) start out₀ at out
+  pub is : Printed (patternLines i bits) start out₀ at out
 
-module _ {frames : List Float} {start : ℕ} {out₀ : List ℕ} where
-  pub listed-none : FramesRoom (length frames) start (length out₀) → Listed frames start out₀ 0 start out₀
-  unfolding frameLines
-  listed-none r = record { within = omega arith; room = r; same = refl; is = printed-none start out₀ }
+pub listed-none : {bits : ℕ → ℕ} {n start : ℕ} {out₀ : List ℕ} → FramesRoom n start (length out₀) → Listed bits n start out₀ 0 start out₀
+unfolding patternLines
+listed-none {bits} {n} {start} {out₀} r = record { within = omega arith; room = r; same = refl; is = printed-none start out₀ }
 
-module _ {frames : List Float} {start : ℕ} {out₀ : List ℕ} {i at : ℕ} {out : List ℕ} (h : Listed frames start out₀ i at out) where
-  module _ (lt : i < length frames) (bits : ℕ) where
-    both-room : Room (frameLines i frames ++ printedF i bits) start out₀
+module _ {bits : ℕ → ℕ} {n start : ℕ} {out₀ : List ℕ} {i at : ℕ} {out : List ℕ} (h : Listed bits n start out₀ i at out) where
+  module _ (lt : i < n) (b : ℕ) where
+    both-room : Room (patternLines i bits ++ printedF i b) start out₀
     both-room =
-        let a = length-append (frameLines i frames) (printedF i bits) in
-        let l = frame-length i bits (omega (arith, h .room .frames)) in
-        let m = frames-length i frames (omega (arith, h .room .frames)) in
+        let a = length-append (patternLines i bits) (printedF i b) in
+        let l = frame-length i b (omega (arith, h .room .frames)) in
+        let m = lines-length i bits (omega (arith, h .room .frames)) in
         record { fits = omega (arith, h .room .bytes) }
 
-    pub frame-room : Room (printedF i bits) at out
-    frame-room = room-next (frameLines i frames) (printedF i bits) both-room (h .is)
+    pub line-room : Room (printedF i b) at out
+    line-room = room-next (patternLines i bits) (printedF i b) both-room (h .is)
 
-    pub listed-more : {next : ℕ} {out₁ : List ℕ} → bits ≡ frameBits (getD frames i nan) → length out₁ ≡ length out
-        → Printed (printedF i bits) at out next out₁ → Listed frames start out₀ (i + 1) next out₁
-    unfolding frameLines
+    pub listed-more : {next : ℕ} {out₁ : List ℕ} → b ≡ bits i → length out₁ ≡ length out → Printed (printedF i b) at out next out₁ → Listed bits n start out₀ (i + 1) next out₁
+    unfolding patternLines
     listed-more e s p =
         record {
           within = omega arith;
           room = h .room;
           same = s ∙ h .same;
-          is = rw add-one (printed-as (ap (λ (b : ℕ). frameLines i frames ++ printedF i b) e) (printed-both (frameLines i frames) (printedF i bits) both-room (h .is) p));
+          is = rw add-one (printed-as (ap (λ (x : ℕ). patternLines i bits ++ printedF i x) e) (printed-both (patternLines i bits) (printedF i b) both-room (h .is) p));
         }
 
-  pub listed-all : length frames ≤ i → Printed (frameLines (length frames) frames) start out₀ at out
-  listed-all l = let z : i ≡ length frames = omega (arith, h .within) in printed-as (ap (λ (n : ℕ). frameLines n frames) z) (h .is)
+  pub listed-all : n ≤ i → Printed (patternLines n bits) start out₀ at out
+  listed-all l = let z : i ≡ n = omega (arith, h .within) in printed-as (ap (λ (m : ℕ). patternLines m bits) z) (h .is)

@@ -96,3 +96,7 @@ module _ {text : List ℕ} {out : List ℕ} {n : ℕ} {out₁ : List ℕ} (p : P
 
   pub printed-text : take n out₁ ≡ text
   printed-text = rw whole (take-at text (drop n out) n (sym (p .after ∙ omega arith)))
+
+  -- it fits on its page
+  pub printed-fits : n ≤ length out₁
+  printed-fits = omega (arith, p .after, ap length whole, length-append text (drop n out))

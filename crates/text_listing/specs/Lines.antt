@@ -29,10 +29,18 @@ printedR number = (82 ∷ []) ++ (tabbedText (decimalText number) ++ lineEnd)
 unfoldable pub frameBits : Float → ℕ
 frameBits x = cond (isNan x) 0x7fc00000 (toBits binary32 x)
 
+-- the lines of the first n bit patterns
+unfoldable pub patternLines : ℕ → (ℕ → ℕ) → List ℕ
+patternLines zero bits = []
+patternLines (suc n) bits = patternLines n bits ++ printedF n (bits n)
+
 -- the lines of the first n frames
-unfoldable pub frameLines : ℕ → List Float → List ℕ
-frameLines zero frames = []
-frameLines (suc n) frames = frameLines n frames ++ printedF n (frameBits (getD frames n nan))
+abbrev pub frameLines : ℕ → List Float → List ℕ
+frameLines n frames = patternLines n (λ i. frameBits (getD frames i nan))
+
+-- of some patterns, each with its own bits
+abbrev pub linesOf : List ℕ → List ℕ
+linesOf bits = patternLines (length bits) (λ i. getD bits i 0)
 
 -- what an accepted score prints: "G with the end state and draw count, then one F line a frame"
 abbrev pub listingOf : ℕ → ℕ → List Float → List ℕ

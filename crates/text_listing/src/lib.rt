@@ -3,5 +3,7 @@
 mod digits; // digits.rt: bytes and numbers
 mod lines; // lines.rt: the lines G, F and R, and the listing
 
+pub use lines::frame_bits;
+pub use lines::put_lines;
 pub use lines::put_listing;
 pub use lines::put_refusal;

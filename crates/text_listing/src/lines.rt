@@ -2,7 +2,7 @@
 ghost use mathlib.Core.Path.{_≡_};
 ghost use Prim.Native.Nat.{_≤_};
 ghost use lib.ListN.{length};
-ghost use Rattle.text_listing.specs.Lines.{printedG, printedF, printedR, frameBits, frameLines, listingOf};
+ghost use Rattle.text_listing.specs.Lines.{printedG, printedF, printedR, frameBits, frameLines, linesOf, listingOf};
 ghost use Rattle.text_listing.specs.Printed.{Room, Printed, FramesRoom};
 use crate::digits::put_byte;
 use crate::digits::put_decimal_field;
@@ -31,7 +31,7 @@ fn put_frame(out: &mut [u8], at: usize, index: usize, bits: u32) -> usize
 }
 
 // The bits of a frame as they are printed: one pattern for every NaN.
-fn frame_bits(x: f32) -> u32
+pub fn frame_bits(x: f32) -> u32
     ensures { λ r. ⌜ r ≡ frameBits x ⌝ }
 {
     if x != x {
@@ -49,6 +49,20 @@ fn put_frames(out: &mut [u8], start: usize, frames: &[f32]) -> usize
     let mut i: usize = 0;
     while i < frames.len() {
         at = put_frame(out, at, i, frame_bits(frames[i]));
+        i += 1;
+    }
+    at
+}
+
+// The lines of all bit patterns, from the first byte on.
+pub fn put_lines(out: &mut [u8], bits: &[u32]) -> usize
+    requires { ⌜ FramesRoom (length (now bits)) 0 (length (now out)) ⌝ }
+    ensures { λ r. ⌜ Printed (linesOf (now (bits .entry))) 0 (now (out .entry)) r (now (out .exit)) ⌝ }
+{
+    let mut at = 0;
+    let mut i: usize = 0;
+    while i < bits.len() {
+        at = put_frame(out, at, i, bits[i]);
         i += 1;
     }
     at

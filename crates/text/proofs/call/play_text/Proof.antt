@@ -1,6 +1,7 @@
 -- `text::call::play_text` meets its contract. Assumes nothing.
 use native.Mathlib.Omega.{arith}
-use Rattle.text.proofs.Replying.{written-within, written-most, printed-fits, replied-short, replied-whole}
+use Rattle.text_listing.proofs.Put.{printed-fits}
+use Rattle.text.proofs.Replying.{written-within, written-most, replied-short, replied-whole}
 use borrow.Author.Needs.{needs}
 use Rattle.text.proofs.call.play_text.Statement.{statement}
 use Rattle.text.proofs.call.play_text.Tie as tie

@@ -1,13 +1,15 @@
 -- `text_listing::lines::put_frames` meets its contract. The loop's invariant is `Listed`. Assumes nothing.
 use borrow.Author.Needs.{needs}
 use Prim.Native.Nat.{_-_}
-use lib.ListN.{length}
-use Rattle.text_listing.proofs.Listings.{Listed, listed-none, frame-room, listed-more, listed-all}
+use lib.ListN.{length, getD}
+use lib.Ieee.{nan}
+use Rattle.text_listing.specs.Lines.{frameBits}
+use Rattle.text_listing.proofs.Listings.{Listed, listed-none, line-room, listed-more, listed-all}
 use Rattle.text_listing.proofs.lines.put_frames.Statement.{statement}
 use Rattle.text_listing.proofs.lines.put_frames.Tie as tie
 
 abbrev Inv-loop : tie.InvT-loop
-Inv-loop out₀ start frames at₀ i₀ out at i = Listed frames start out₀ i at out
+Inv-loop out₀ start frames at₀ i₀ out at i = Listed (λ k. frameBits (getD frames k nan)) (length frames) start out₀ i at out
 
 abbrev μ-loop : tie.MeasureT-loop
 μ-loop out₀ start frames at₀ i₀ out at i = length frames - i
@@ -16,7 +18,7 @@ loop-holds : tie.Need-loop-holds Inv-loop μ-loop
 loop-holds c = listed-none (c .before .before .pre)
 
 put-frame-requires : tie.Need-put-frame-requires Inv-loop μ-loop
-put-frame-requires c κs = frame-room (c .before .before .before .before .loop .inv) (c .before .before .before .loop-test .taken) _
+put-frame-requires c κs = line-room (c .before .before .before .before .loop .inv) (c .before .before .before .loop-test .taken) _
 
 loop-again : tie.Need-loop-again Inv-loop μ-loop
 loop-again c =

@@ -1,0 +1,3 @@
+mod Patterns
+pub mod Filing
+pub mod Enough

@@ -1,0 +1,4 @@
+mod Judging
+pub mod Walking
+pub mod Bits
+pub mod Ending
