@@ -1,6 +1,6 @@
 //! What document 01 asks of the text call and of the C call: a text score's bytes to its listing. The
 //! text is split into lines and fields, as 01 gives its form; past 15 and 16 the answer is the tally's.
-//! Nothing here comes from the library. Words in quotes are 01's.
+//! Nothing here comes from the library. Words in quotes are 01's, or 02's where it is named.
 
 use crate::reference::{Outcome, Tally};
 use crate::score::Score;
