@@ -110,7 +110,7 @@ static inline const char *tono_reason(int number)
  *     R <tab> number                  why: a number of enum tono_refusal
  * Every line ends in a newline. A refusal is an answer, not a failure: it has a listing like any other.
  * The score may hold any bytes and have any length; more than 65,536 bytes are refused with
- * TONO_REFUSED_TEXT_SIZE.
+ * TONO_REFUSED_TEXT_SIZE. A line N that stops after its pitch has gain 0.5, as if 3f000000 stood there.
  *
  * Both buffers are lent: they stay yours, and the call does not use them after it returns. It only reads
  * the score, and of the reply it writes only the listing's bytes.

@@ -21,8 +21,8 @@ KNOBS = {
     "bass": "bass_cutoff bass_env bass_env_vel bass_decay bass_click bass_body bass_sub bass_sub_ratio bass_drive "
             "bass_body_decay".split(),
 }
-# the gain of a line N that stops after the pitch
-SHORT_GAIN = "3f800000"
+# the gain of a line N that stops after the pitch: 0.5
+SHORT_GAIN = "3f000000"
 NAMES = "C C# D D# E F F# G G# A A# B".split()
 MASK = 2**64 - 1
 

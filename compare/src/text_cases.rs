@@ -199,7 +199,7 @@ fn lines() -> Vec<Case> {
     cases
 }
 
-/// Of the whole text, and what an N line may leave out.
+/// Of the whole text, and what an N line may leave out; `no-gain` plays as `gain-half` does.
 fn wholes() -> Vec<Case> {
     let good = base().bytes();
     let short = &good[..good.len() - 1];
@@ -225,6 +225,10 @@ fn wholes() -> Vec<Case> {
         case(
             "no-gain",
             with(|t| t.lines.iter_mut().skip(4).for_each(|l| drop(l.pop()))),
+        ),
+        case(
+            "gain-half",
+            with(|t| (4..7).for_each(|i| t.set(i, 4, "3f000000"))),
         ),
         case("no-pitch", with(|t| t.lines[6].truncate(3))),
         case("a-G-line-after", with(|t| t.lines.push(t.lines[1].clone()))),

@@ -106,16 +106,19 @@ fn long(text: Text, s: &mut Source) -> Vec<u8> {
 
 /// A well-formed text with N lines after it, so that it has so many bytes.
 pub fn padded(text: &[u8], length: usize) -> Vec<u8> {
+    let note = |step: usize, len: usize| {
+        let (step, len) = ("1".repeat(step), "1".repeat(len));
+        format!("N\t{step}\t{len}\t00000000\t3f800000\n").into_bytes()
+    };
     let mut bytes = text.to_vec();
-    let note = b"N\t0\t0\t00000000\n";
-    while bytes.len() + 2 * note.len() <= length {
-        bytes.extend(note);
+    // digits beyond one in each number; the first notes have them, at most nine in a number
+    let mut more = (length - bytes.len()) % note(1, 1).len();
+    while bytes.len() < length {
+        let step = more.min(9);
+        let len = (more - step).min(9);
+        more -= step + len;
+        bytes.extend(note(1 + step, 1 + len));
     }
-    // a last note, whose step and length have as many digits as it takes, at most ten
-    let digits = length - bytes.len() - (note.len() - 2);
-    let step = "1".repeat(digits.min(11) - 1);
-    let len = "1".repeat(digits - step.len());
-    bytes.extend(format!("N\t{step}\t{len}\t00000000\n").bytes());
     bytes
 }
 

@@ -1,6 +1,6 @@
 //! What document 01 asks of the text call and of the C call: a text score's bytes to its listing. The
 //! text is split into lines and fields, as 01 gives its form; past 15 and 16 the answer is the tally's.
-//! Nothing here comes from the library. Words in quotes are 01's.
+//! Nothing here comes from the library. Words in quotes are 01's, or 02's where it is named.
 
 use crate::reference::{Outcome, Tally};
 use crate::score::Score;
@@ -158,12 +158,12 @@ fn line_v(line: &[&[u8]]) -> Option<Voice> {
     Some(Voice { wave, duty, knobs })
 }
 
-/// "N step len pitch gain .. each of which may stop after pitch, gain then being 1": the note's five
-/// words.
+/// "N step len pitch gain .. each of which may stop after pitch", and 02, Card 5: "A line N that stops after
+/// the pitch now means gain 0.5, bits 3f000000". The note's five words.
 fn line_n(line: &[&[u8]]) -> Option<[u32; 5]> {
-    let one: &[u8] = b"3f800000";
+    let half: &[u8] = b"3f000000";
     let line = match line {
-        [n, step, len, pitch] => &[*n, *step, *len, *pitch, one],
+        [n, step, len, pitch] => &[*n, *step, *len, *pitch, half],
         _ => line,
     };
     let [step, len, pitch, gain] = after(b"N", line)?;

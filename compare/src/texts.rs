@@ -68,7 +68,13 @@ fn try_text(name: &str, text: &[u8], s: &mut Source, tried: &mut Tried) {
     }
 }
 
-fn kinds(text: &[u8], asked: &Listing) -> [(&'static str, bool); 7] {
+/// Whether an N line stops after its pitch.
+fn short_gain(text: &[u8]) -> bool {
+    let short = |line: &[u8]| line.starts_with(b"N") && line.split(|&b| b == b'\t').count() == 4;
+    text.split(|&b| b == b'\n').any(short)
+}
+
+fn kinds(text: &[u8], asked: &Listing) -> [(&'static str, bool); 8] {
     let (number, bytes) = (asked.number, text.len());
     let frames = || asked.bytes.iter().filter(|&&b| b == b'F').count();
     let notes = || text.windows(2).filter(|w| w == b"\nN").count();
@@ -88,6 +94,10 @@ fn kinds(text: &[u8], asked: &Listing) -> [(&'static str, bool); 7] {
             number == 0 && frames() == 2048,
         ),
         ("accepted with 256 notes", number == 0 && notes() == 256),
+        (
+            "accepted with an N line that stops after its pitch",
+            number == 0 && short_gain(text),
+        ),
         ("accepted with a NaN frame", number == 0 && nan()),
         (
             "accepted and at draw 2^64 - 1 after it",

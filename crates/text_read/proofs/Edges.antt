@@ -58,9 +58,9 @@ pub reads :
     Reads (score ∷ opening ∷ envelope ∷ voicing ∷ "N\t0\t1\t00000000\t3f800000\n" ∷ []) saw (0 ∷ 1 ∷ 0 ∷ 0 ∷ 0x3f800000 ∷ [])
     -- no notes
     × Reads (score ∷ opening ∷ envelope ∷ voicing ∷ []) saw []
-    -- a note that stops after pitch, and the largest number of 32 bits
+    -- a note that stops after pitch and so has the gain 0.5, and the largest number of 32 bits
     × Reads (score ∷ opening ∷ envelope ∷ voicing ∷ "N\t0\t1\t00000000\tbf800000\n" ∷ "N\t4294967295\t12\t7fc00001\n" ∷ []) saw
-    (0 ∷ 1 ∷ 0 ∷ 0 ∷ 0xbf800000 ∷ 4294967295 ∷ 12 ∷ 0 ∷ 0x7fc00001 ∷ 0x3f800000 ∷ [])
+    (0 ∷ 1 ∷ 0 ∷ 0 ∷ 0xbf800000 ∷ 4294967295 ∷ 12 ∷ 0 ∷ 0x7fc00001 ∷ 0x3f000000 ∷ [])
     -- knobs, of which those of the other sets are 0
     × Reads (score ∷ opening ∷ envelope ∷ "V\t5\t3f000000\t40000000\t3f800000\t3dcccccd\n" ∷ []) (voiceWith Fm (0x40000000 ∷ 0x3f800000 ∷ 0x3dcccccd ∷ []) [] [] []) []
 unfolding digitOf byte hexFrom digitsFrom fitting decimal value field fields before ending line lineS seedField drawField lineG lineE
@@ -76,17 +76,17 @@ pub breaks :
     × Breaks (score ∷ opening ∷ voicing ∷ [])
     × Breaks (score ∷ opening ∷ envelope ∷ voicing ∷ voicing ∷ [])
     × Breaks (score ∷ opening ∷ envelope ∷ voicing ∷ "\n" ∷ [])
-    × Breaks (score ∷ opening ∷ envelope ∷ voicing ∷ "M\t0\t1\t00000000\n" ∷ [])
+    × Breaks (score ∷ opening ∷ envelope ∷ voicing ∷ "M\t0\t1\t00000000\t3f800000\n" ∷ [])
     -- the last line without its newline; a carriage return; a trailing tab
-    × Breaks (score ∷ opening ∷ envelope ∷ voicing ∷ "N\t0\t1\t00000000" ∷ [])
-    × Breaks (score ∷ opening ∷ envelope ∷ voicing ∷ "N\t0\t1\t00000000\r\n" ∷ [])
+    × Breaks (score ∷ opening ∷ envelope ∷ voicing ∷ "N\t0\t1\t00000000\t3f800000" ∷ [])
+    × Breaks (score ∷ opening ∷ envelope ∷ voicing ∷ "N\t0\t1\t00000000\t3f800000\r\n" ∷ [])
     × Breaks (score ∷ opening ∷ envelope ∷ voicing ∷ "N\t0\t1\t00000000\t\n" ∷ [])
     -- a leading zero; a sign; an uppercase digit; a digit missing; 2^32
-    × Breaks (score ∷ opening ∷ envelope ∷ voicing ∷ "N\t00\t1\t00000000\n" ∷ [])
-    × Breaks (score ∷ opening ∷ envelope ∷ voicing ∷ "N\t+1\t1\t00000000\n" ∷ [])
-    × Breaks (score ∷ opening ∷ envelope ∷ voicing ∷ "N\t0\t1\t3F800000\n" ∷ [])
-    × Breaks (score ∷ opening ∷ envelope ∷ voicing ∷ "N\t0\t1\t0000000\n" ∷ [])
-    × Breaks (score ∷ opening ∷ envelope ∷ voicing ∷ "N\t4294967296\t1\t00000000\n" ∷ [])
+    × Breaks (score ∷ opening ∷ envelope ∷ voicing ∷ "N\t00\t1\t00000000\t3f800000\n" ∷ [])
+    × Breaks (score ∷ opening ∷ envelope ∷ voicing ∷ "N\t+1\t1\t00000000\t3f800000\n" ∷ [])
+    × Breaks (score ∷ opening ∷ envelope ∷ voicing ∷ "N\t0\t1\t00000000\t3F800000\n" ∷ [])
+    × Breaks (score ∷ opening ∷ envelope ∷ voicing ∷ "N\t0\t1\t0000000\t3f800000\n" ∷ [])
+    × Breaks (score ∷ opening ∷ envelope ∷ voicing ∷ "N\t4294967296\t1\t00000000\t3f800000\n" ∷ [])
     -- a draw of 2^64
     × Breaks (score ∷ "G\t0000000000000000\t18446744073709551616\n" ∷ envelope ∷ voicing ∷ [])
     -- no such wave; a knob missing; one too many

@@ -7,7 +7,7 @@ use lib.ListN.{length, getD, length-append}
 use Rattle.text_digits.specs.Read.{Read, got, broken, after}
 use Rattle.text_lines.specs.Line.{before, line}
 use Rattle.text_lines.proofs.Forms.{broken-got, parted}
-use Rattle.text_read.specs.Notes.{lineN, notesUpTo, notesOf, wordsOf, formN, formShort, gain1, countOf}
+use Rattle.text_read.specs.Notes.{lineN, notesUpTo, notesOf, wordsOf, formN, formShort, shortGain, countOf}
 use Rattle.text_read.proofs.Shorter.{or-else}
 
 made-five : (x : Read (List ℕ)) (gain : List ℕ → ℕ) {ws r : List ℕ} → after x (λ us rest. got (wordsOf us (gain us)) rest) ≡ got ws r → length ws ≡ 5
@@ -16,7 +16,7 @@ made-five broken gain e = broken-got e
 
 note-five : (s : List ℕ) {ws r : List ℕ} → lineN s ≡ got ws r → length ws ≡ 5
 unfolding lineN
-note-five s e = or-else _ _ (λ p. made-five (line 78 formN s) (λ vs. getD vs 3 0) p) (λ p. made-five (line 78 formShort s) (λ _. gain1) p) e
+note-five s e = or-else _ _ (λ p. made-five (line 78 formN s) (λ vs. getD vs 3 0) p) (λ p. made-five (line 78 formShort s) (λ _. shortGain) p) e
 
 before-five : (vs : List ℕ) (x : Read (List ℕ)) {ws r : List ℕ} → length vs ≡ 5 → ((us q : List ℕ) → x ≡ got us q → length us ≡ countOf us * 5) → before vs x ≡ got ws r → length ws ≡ countOf ws * 5
 unfolding before

@@ -9,7 +9,7 @@ use lib.Seq.{sets-eq, take-at, drop-append-add, drop-drop}
 use Rattle.text_digits.specs.Read.{Read, got, broken}
 use Rattle.laws.proofs.If.{if-true, if-false}
 use Rattle.text_lines.specs.Line.{before, storedIn, line}
-use Rattle.text_read.specs.Notes.{lineN, notesOf, eitherForm, wordsOf, formN, formShort, gain1, countOf, counted, wordsAfter, Noted, Fitting}
+use Rattle.text_read.specs.Notes.{lineN, notesOf, eitherForm, wordsOf, formN, formShort, shortGain, countOf, counted, wordsAfter, Noted, Fitting}
 use Rattle.text_read.specs.Answers.{noteRead}
 use Rattle.text_read.specs.declared.notes.LineN.{LineN}
 use Rattle.text_read.specs.declared.notes.LineN.the-variants as line-n
@@ -29,7 +29,7 @@ whole (a ∷ b ∷ []) = refl
 whole (a ∷ b ∷ c ∷ []) = refl
 whole (a ∷ b ∷ c ∷ d ∷ l) = refl
 
-short : (l : List ℕ) → wordsOf l gain1 ≡ wordsOf (take 3 l) gain1
+short : (l : List ℕ) → wordsOf l shortGain ≡ wordsOf (take 3 l) shortGain
 short [] = refl
 short (a ∷ []) = refl
 short (a ∷ b ∷ []) = refl
@@ -40,7 +40,7 @@ module _ (l x : List ℕ) {rest : List ℕ} where
   unfolding lineN eitherForm
   note-whole e = rw (← e, whole l)
 
-  pub note-short : broken ≡ line 78 formN x → got (take 3 l) rest ≡ line 78 formShort x → got (wordsOf l gain1) rest ≡ lineN x
+  pub note-short : broken ≡ line 78 formN x → got (take 3 l) rest ≡ line 78 formShort x → got (wordsOf l shortGain) rest ≡ lineN x
   unfolding lineN eitherForm
   note-short d e = rw (← d, ← e, short l)
 

@@ -8,7 +8,7 @@ use lib.ListN.{length, drop, getD, length-drop}
 use lib.Dec.{ltb, leb, eqb}
 use Rattle.text_digits.specs.Read.{Read, got, broken, after, digitOf, byte, hexFrom, digitsFrom, fitting, decimal}
 use Rattle.text_lines.specs.Line.{value, field, fields, before, ending, line}
-use Rattle.text_read.specs.Notes.{lineN, notesUpTo, notesOf, eitherForm, wordsOf, formN, formShort, gain1}
+use Rattle.text_read.specs.Notes.{lineN, notesUpTo, notesOf, eitherForm, wordsOf, formN, formShort, shortGain}
 use Rattle.text_read.specs.Answers.{noteRead}
 use Rattle.text_read.specs.declared.notes.LineN.{LineN}
 use Rattle.text_read.specs.declared.notes.LineN.the-variants.{At}
@@ -112,7 +112,7 @@ made-shorter letter ks s make e =
 pub note-shorter : (s : List ℕ) {ws r : List ℕ} → lineN s ≡ got ws r → length r < length s
 unfolding lineN
 note-shorter s e =
-    or-else _ _ (λ p. made-shorter 78 formN s (λ vs. wordsOf vs (getD vs 3 0)) p) (λ p. made-shorter 78 formShort s (λ vs. wordsOf vs gain1) p) e
+    or-else _ _ (λ p. made-shorter 78 formN s (λ vs. wordsOf vs (getD vs 3 0)) p) (λ p. made-shorter 78 formShort s (λ vs. wordsOf vs shortGain) p) e
 
 -- a bound that is as long as the bytes is never met
 enough : (j k : ℕ) (s : List ℕ) → length s ≤ j → length s ≤ k → notesUpTo j s ≡ notesUpTo k s

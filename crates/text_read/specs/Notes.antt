@@ -1,4 +1,4 @@
--- The lines N: "then N step len pitch gain, none or more such lines, each of which may stop after pitch, gain then being 1".
+-- The lines N: "then N step len pitch gain, none or more such lines, each of which may stop after pitch"; "A line N that stops after the pitch now means gain 0.5, bits 3f000000" (02, Card 5).
 use Prim.Native.Nat.{ℕ, zero, suc, _/_, _≤_}
 use mathlib.Core.Path.{_≡_}
 use mathlib.Core.List.{List, [], _∷_}
@@ -20,9 +20,9 @@ formShort = word ∷ word ∷ float ∷ []
 abbrev pub wordsOf : List ℕ → ℕ → List ℕ
 wordsOf vs gain = getD vs 0 0 ∷ getD vs 1 0 ∷ 0 ∷ getD vs 2 0 ∷ gain ∷ []
 
--- the bits of 1
-abbrev pub gain1 : ℕ
-gain1 = 0x3f800000
+-- the gain of a line that stops after pitch: the bits of 0.5
+abbrev pub shortGain : ℕ
+shortGain = 0x3f000000
 
 -- the one form, or, where the bytes are not of it, the other
 unfoldable pub eitherForm : {A : Type 0} → Read A → Read A → Read A
@@ -32,7 +32,7 @@ eitherForm broken r = r
 unfoldable pub lineN : List ℕ → Read (List ℕ)
 lineN s =
     eitherForm (after (line 78 formN s) (λ vs rest. got (wordsOf vs (getD vs 3 0)) rest))
-    (after (line 78 formShort s) (λ vs rest. got (wordsOf vs gain1) rest))
+    (after (line 78 formShort s) (λ vs rest. got (wordsOf vs shortGain) rest))
 
 -- the words of at most so many lines, to the end of the bytes
 unfoldable pub notesUpTo : ℕ → List ℕ → Read (List ℕ)

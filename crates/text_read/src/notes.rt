@@ -16,7 +16,7 @@ enum LineN {
     Broken,
 }
 
-// A line of four fields, or one that stops after pitch and has the gain 1.
+// A line of four fields, or one that stops after pitch and has the gain 0.5.
 fn line_n(s: &[u8], at: usize) -> LineN
     ensures { λ r. ⌜ noteRead (now (s .entry)) r ≡ lineN (drop at (now (s .entry))) ⌝ }
 {
@@ -26,7 +26,7 @@ fn line_n(s: &[u8], at: usize) -> LineN
     }
     let mut short = [0u32; 3];
     if let Place::At(last) = line(s, at, b'N', &[WORD, WORD, FLOAT], &mut short) {
-        return LineN::At(short[0], short[1], short[2], 0x3f80_0000, last);
+        return LineN::At(short[0], short[1], short[2], 0x3f00_0000, last);
     }
     LineN::Broken
 }
