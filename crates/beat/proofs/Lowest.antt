@@ -10,11 +10,11 @@ use Rattle.beat.specs.Beat.{Reduced}
 use Rattle.beat.specs.declared.beat.Beat.{Beat}
 
 -- the sign of a product
-pub neg-times : (q d : ℕ) → negℤ (pos q) *ℤ pos d ≡ negℤ (pos (q * d))
+neg-times : (q d : ℕ) → negℤ (pos q) *ℤ pos d ≡ negℤ (pos (q * d))
 neg-times zero d = let z : 0 * d ≡ 0 = zero-mul d in rw z
 neg-times (suc q) d = refl
 
-size-neg : (q : ℕ) → natAbs (negℤ (pos q)) ≡ q
+pub size-neg : (q : ℕ) → natAbs (negℤ (pos q)) ≡ q
 size-neg zero = refl
 size-neg (suc q) = refl
 

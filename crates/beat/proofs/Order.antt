@@ -63,17 +63,17 @@ neg-below x y h = rw (below-0 x h)
 neg-above : (x y : ℕ) → 0 < y → ltZ (pos x) (negℤ (pos y)) ≡ false
 neg-above x y h = rw (below-0 y h)
 
-crossed : (p q : ℤ) (b d k l : ℕ) → 0 < b → 0 < d → 0 < k → 0 < l → b * k ≡ d * l → ltZ (p *ℤ pos d) (q *ℤ pos b) ≡ ltZ (p *ℤ pos k) (q *ℤ pos l)
-crossed (pos m) (pos n) b d k l B D K L c = decide m n b d k l c K D
-crossed (pos m) (negsuc n) b d k l B D K L c =
+cross-decides : (p q : ℤ) (b d k l : ℕ) → 0 < b → 0 < d → 0 < k → 0 < l → b * k ≡ d * l → ltZ (p *ℤ pos d) (q *ℤ pos b) ≡ ltZ (p *ℤ pos k) (q *ℤ pos l)
+cross-decides (pos m) (pos n) b d k l B D K L c = decide m n b d k l c K D
+cross-decides (pos m) (negsuc n) b d k l B D K L c =
     neg-above (m * d) (suc n * b) (mul-pos (omega arith) B) ∙ sym (neg-above (m * k) (suc n * l) (mul-pos (omega arith) L))
-crossed (negsuc m) (pos n) b d k l B D K L c =
+cross-decides (negsuc m) (pos n) b d k l B D K L c =
     neg-below (suc m * d) (n * b) (mul-pos (omega arith) D) ∙ sym (neg-below (suc m * k) (n * l) (mul-pos (omega arith) K))
-crossed (negsuc m) (negsuc n) b d k l B D K L c =
+cross-decides (negsuc m) (negsuc n) b d k l B D K L c =
     lt-neg (suc m * d) (suc n * b) (mul-pos (omega arith) D) (mul-pos (omega arith) B) ∙ decide (suc n) (suc m) d b l k (sym c) L B
     ∙ sym (lt-neg (suc m * k) (suc n * l) (mul-pos (omega arith) K) (mul-pos (omega arith) L))
 
 -- a is num * k over the denominator that b has with num * l
 pub common : (a b : Beat) (k l : ℕ) → 0 < a .den → 0 < b .den → 0 < k → 0 < l → a .den * k ≡ b .den * l → ltBeat a b ≡ ltZ (a .num *ℤ pos k) (b .num *ℤ pos l)
 unfolding ltBeat
-common a b k l A B K L c = crossed (a .num) (b .num) (a .den) (b .den) k l A B K L c
+common a b k l A B K L c = cross-decides (a .num) (b .num) (a .den) (b .den) k l A B K L c

@@ -14,6 +14,7 @@ use Rattle.ieee.specs.Binary64.{_⧄_}
 use Rattle.ieee.proofs.Value.{div-value}
 use Rattle.beat.specs.Beat.{beat64, Reduced}
 use Rattle.beat.specs.declared.beat.Beat.{Beat}
+use Rattle.beat.proofs.Lowest.{size-neg}
 
 module _ (s : Bool) (a b c d : ℕ) (ha : a ≤ 2 ^ 53) (hb : b ≤ 2 ^ 53) (hc : c ≤ 2 ^ 53) (hd : d ≤ 2 ^ 53) (pb : 0 < b) (pd : 0 < d) (same : a * d ≡ c * b) where
   same-quotient : div binary64 (round binary64 s a 1) (round binary64 false b 1) ≡ div binary64 (round binary64 s c 1) (round binary64 false d 1)
@@ -23,13 +24,9 @@ module _ (s : Bool) (a b c d : ℕ) (ha : a ≤ 2 ^ 53) (hb : b ≤ 2 ^ 53) (hc 
       let q = div-value binary64 (round binary64 s c 1) (round binary64 false d 1) s false c 1 d 1 one pd one (round-whole binary64 s c hc) (round-whole binary64 false d hd) in
       p ∙ round-same binary64 _ (a * 1) (b * 1) (c * 1) (d * 1) (rw mul-one pb) (rw mul-one pd) (rw (mul-one a, mul-one b, mul-one c, mul-one d) same) ∙ sym q
 
-size-neg : (x : ℕ) → natAbs (negℤ (pos x)) ≡ x
-size-neg zero = refl
-size-neg (suc x) = refl
-
-below-0 : (x : ℕ) → 0 < x → nonNeg (negℤ (pos x)) ≡ false
-below-0 zero h = absurd (omega arith)
-below-0 (suc x) h = refl
+sign-neg : (x : ℕ) → 0 < x → nonNeg (negℤ (pos x)) ≡ false
+sign-neg zero h = absurd (omega arith)
+sign-neg (suc x) h = refl
 
 clash : true ≡ false → ⊥
 clash e = let z : _≡_ {A = ℕ} 0 1 = cc in omega arith
@@ -40,8 +37,8 @@ same-terms :
     p *ℤ pos d ≡ q *ℤ pos b → ofInt binary64 p ⧄ f64 b ≡ ofInt binary64 q ⧄ f64 d
 unfolding ofInt
 same-terms (pos m) (pos n) b d hp hq hb hd B D e = same-quotient false m b n d (omega arith) (omega arith) (omega arith) (omega arith) B D (ap natAbs e)
-same-terms (pos m) (negsuc n) b d hp hq hb hd B D e = absurd (clash (ap nonNeg e ∙ below-0 (suc n * b) (mul-pos (omega arith) B)))
-same-terms (negsuc m) (pos n) b d hp hq hb hd B D e = absurd (clash (sym (ap nonNeg e) ∙ below-0 (suc m * d) (mul-pos (omega arith) D)))
+same-terms (pos m) (negsuc n) b d hp hq hb hd B D e = absurd (clash (ap nonNeg e ∙ sign-neg (suc n * b) (mul-pos (omega arith) B)))
+same-terms (negsuc m) (pos n) b d hp hq hb hd B D e = absurd (clash (sym (ap nonNeg e) ∙ sign-neg (suc m * d) (mul-pos (omega arith) D)))
 same-terms (negsuc m) (negsuc n) b d hp hq hb hd B D e =
     same-quotient true (suc m) b (suc n) d (omega arith) (omega arith) (omega arith) (omega arith) B D (sym (size-neg (suc m * d)) ∙ ap natAbs e ∙ size-neg (suc n * b))
 

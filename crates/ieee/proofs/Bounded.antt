@@ -2,7 +2,8 @@
 -- so that rounding does not pass it. Assumes nothing.
 use mathlib.Core.Path.{_≡_, refl, sym, ap, _∙_, subst}
 use Prim.Native.Nat.{ℕ, zero, suc, _+_, _-_, _*_, _/_, _^_, _≤_, _<_, zero-le}
-use native.Mathlib.Nat.{lt-irrefl, lt-of-lt-of-le, lt-of-mul-lt-mul-right, zero-mul, zero-lt-suc, add-comm, le-trans, le-of-eq, le-of-lt, mul-pos, mul-le-mul, mul-le-mul-right, mul-mul-mul-comm, mul-right-comm, mul-assoc, mul-comm, le-of-mul-le-mul-right}
+use native.Mathlib.Nat.{lt-irrefl, lt-of-lt-of-le, lt-of-mul-lt-mul-right, zero-mul, zero-lt-suc, add-comm, le-trans, le-of-eq}
+use native.Mathlib.Nat.{le-of-lt, mul-pos, mul-le-mul, mul-le-mul-right, mul-mul-mul-comm, mul-right-comm, mul-assoc, mul-comm, le-of-mul-le-mul-right}
 use native.Mathlib.Omega.{arith}
 use mathlib.Core.Bool.{Bool, true, false, not, _&&_, Bool·beq, cond}
 use borrow.Author.Tests.{lt-ltb, le-ltb}

@@ -19,7 +19,8 @@ use Rattle.tempo.specs.Judge.{inDomain, inOrder}
 use Rattle.tempo.specs.declared.map.TempoMap.{TempoMap}
 use Rattle.outcome.specs.First.{Test, _⇒_, firstOf, orElse, firstRefusal, outside}
 use Rattle.outcome.specs.Domain.{domainTests}
-use Rattle.outcome.specs.declared.answer.Refusal.the-variants.{Tempo, StepsPerBeat, TempoPoints, TempoOrder, Groove, Knobs, NoteBuffer, StringBuffer, Words, Lane, Kind, Steps, Size, Reach, Tone, Draws}
+use Rattle.outcome.specs.declared.answer.Refusal.the-variants.{Tempo, StepsPerBeat, TempoPoints, TempoOrder, Groove, Knobs, NoteBuffer, StringBuffer}
+use Rattle.outcome.specs.declared.answer.Refusal.the-variants.{Words, Lane, Kind, Steps, Size, Reach, Tone, Draws}
 use Rattle.outcome.specs.declared.answer.Verdict.{Verdict}
 use Rattle.outcome.specs.declared.answer.Verdict.the-variants.{Fine, Refuse}
 use Rattle.score.specs.Score.{Score, noteIn, noteCount, notesIn, place, scoreDraws}
