@@ -25,10 +25,11 @@ fn note_draws(seq: Seq, notes: &[u32], lane: &[f32], lent: Lent, k: usize) -> us
     if place.start >= lent.n {
         return 0;
     }
-    let pitch = Reading::new(note.pitch, seq.hop);
+    let pitch = note.pitch;
+    let reading = Reading::new(pitch, seq.hop);
     let voice = seq.voice;
     let wave = voice.wave;
-    counts::draw_count(wave, timing.rate, pitch.at(lane, 0), place.sounded)
+    counts::draw_count(wave, timing.rate, reading.at(lane, 0), place.sounded)
 }
 
 // A sum that may not be more than what is left.

@@ -42,8 +42,10 @@ pub fn sound_note(
 {
     let timing = seq.timing;
     let rate = timing.rate;
-    let pitch = Reading::new(note.pitch, seq.hop);
-    let duty = Reading::new(Pitch::Const(seq.duty), 1);
+    let pitch = note.pitch;
+    let reading = Reading::new(pitch, seq.hop);
+    let level = Pitch::Const(seq.duty);
+    let duty = Reading::new(level, 1);
     let sounded = place.sounded;
     let sig = &mut note_buf[..sounded];
     let after = voice::voice_note(
@@ -51,7 +53,7 @@ pub fn sound_note(
         rate,
         seq.voice,
         note.gain,
-        pitch,
+        reading,
         lane,
         duty,
         lane,
