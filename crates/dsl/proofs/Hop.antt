@@ -1,14 +1,14 @@
 -- A curve at a hop: i / h by a product and a shift, and what the reading is at the hop 1 and of a curve that is widened. Assumes nothing.
 use Prim.Native.Nat.{ℕ, zero, suc, _+_, _-_, _*_, _/_, _^_, _≤_, _<_}
 use mathlib.Core.Path.{_≡_, refl, sym, ap, _∙_}
-use native.Mathlib.Nat.{le-refl, le-trans, le-of-eq, lt-of-le-of-lt, lt-of-lt-of-le, mul-assoc, mul-right-comm, mul-add, add-mul, one-mul, mul-le-mul}
+use native.Mathlib.Nat.{le-trans, le-of-eq, mul-assoc, mul-right-comm, mul-add, add-mul, one-mul, mul-le-mul}
 use native.Mathlib.Nat.{mul-le-mul-left, mul-le-mul-right, lt-of-mul-lt-mul-right, div-mul-le-self, div-lt-iff-lt-mul, div-eq-of-lt, div-eq-of-lt-le, div-le-of-le-mul, div-eq-sub-div, div-one, mul-add-div-right}
 use native.Mathlib.Numerals.{add-one}
 use native.Mathlib.Omega.{arith}
 use mathlib.Core.List.{List, [], _∷_, _++_}
 use mathlib.Core.Bool.{Bool, true, false}
 use borrow.Author.Tests.{ltb-true, ltb-false}
-use lib.ListN.{length, getD, replicate, length-replicate, getD-replicate}
+use lib.ListN.{length, getD, replicate, length-replicate}
 use lib.Seq.{getD-append-add}
 use lib.Dec.{ltb}
 use lib.Ieee.{Float, nan}

@@ -3,7 +3,7 @@ use Prim.Native.Nat.{ℕ, _+_, _-_, _*_, _/_, _≤_, _<_}
 use mathlib.Core.Path.{_≡_, refl, sym, ap, _∙_}
 use mathlib.Core.Bool.{Bool, true, false, not}
 use native.Mathlib.Omega.{arith}
-use native.Mathlib.Nat.{le-refl, lt-of-le-of-lt, le-of-suc-le-suc, div-lt-iff-lt-mul, div-one}
+use native.Mathlib.Nat.{div-lt-iff-lt-mul, div-one}
 use borrow.Author.Tests.{lt-ltb, le-ltb, ltb-true, ltb-false, le-leb, lt-leb, not-false}
 use lib.Dec.{ltb, leb, leb→le, le→leb}
 use Rattle.ieee.proofs.Value.{same-test}

@@ -59,7 +59,14 @@ fn bass_at(fi: f32, bass: BassKnobs, gain: f32, srf: f32, i: usize, s: BassState
     }
 }
 
-pub fn bass_note(pitch: Reading, lane: &[f32], bass: BassKnobs, gain: f32, srf: f32, out: &mut [f32])
+pub fn bass_note(
+    pitch: Reading,
+    lane: &[f32],
+    bass: BassKnobs,
+    gain: f32,
+    srf: f32,
+    out: &mut [f32],
+)
     requires { ⌜ reaches pitch (length (now lane)) (length (now out)) ⌝ }
     requires { ⌜ Frames (length (now out)) ⌝ }
     ensures { λ _. ⌜ now (out .exit) ≡ bassFrames (pitchAt pitch (now (lane .entry))) bass gain srf (length (now (out .entry))) ⌝ }

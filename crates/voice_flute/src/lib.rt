@@ -49,7 +49,14 @@ fn flute_at(fi: f32, gain: f32, srf: f32, lp_a: f32, i: usize, s: FluteState) ->
 }
 
 // Hands back the generator after one draw a frame.
-pub fn flute_note(pitch: Reading, lane: &[f32], gain: f32, srf: f32, rng: Rng, out: &mut [f32]) -> Rng
+pub fn flute_note(
+    pitch: Reading,
+    lane: &[f32],
+    gain: f32,
+    srf: f32,
+    rng: Rng,
+    out: &mut [f32],
+) -> Rng
     requires { ⌜ reaches pitch (length (now lane)) (length (now out)) ⌝ }
     requires { ⌜ Frames (length (now out)) ⌝ }
     ensures { λ _. ⌜ now (out .exit) ≡ fluteFrames (pitchAt pitch (now (lane .entry))) gain srf rng (length (now (out .entry))) ⌝ }

@@ -15,8 +15,8 @@ use crate::guitar::Echoes;
 use crate::guitar::Timbre;
 use crate::guitar::guitar_timbre;
 use crate::guitar::ring_all;
-use dsl::Reading;
 use dsl::PluckKnobs;
+use dsl::Reading;
 use rng::Rng;
 
 // What the pick's highpass holds: its last input and output.

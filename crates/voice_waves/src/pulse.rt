@@ -46,7 +46,14 @@ fn square_at(fi: f32, di: f32, srf: f32, phase: f32) -> PhaseOut
 }
 
 // The duty is read at every frame.
-pub fn square(pitch: Reading, lane: &[f32], duty: Reading, duties: &[f32], srf: f32, out: &mut [f32])
+pub fn square(
+    pitch: Reading,
+    lane: &[f32],
+    duty: Reading,
+    duties: &[f32],
+    srf: f32,
+    out: &mut [f32],
+)
     requires { ⌜ reaches pitch (length (now lane)) (length (now out)) ⌝ }
     requires { ⌜ reaches duty (length (now duties)) (length (now out)) ⌝ }
     ensures { λ _. ⌜ now (out .exit) ≡ squareFrames (pitchAt pitch (now (lane .entry))) (pitchAt duty (now (duties .entry))) srf (length (now (out .entry))) ⌝ }

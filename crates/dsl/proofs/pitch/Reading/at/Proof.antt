@@ -1,8 +1,5 @@
 -- `dsl::pitch::Reading::at` meets its contract. Assumes nothing.
-use Prim.Native.Nat.{_+_, _*_, _/_, _^_, _<_}
-use mathlib.Core.Path.{sym, ap}
 use native.Mathlib.Omega.{arith}
-use lib.ListN.{length}
 use borrow.Author.Needs.{needs}
 use Rattle.dsl.specs.Pitch.{valueAt, pitchAt}
 use Rattle.dsl.proofs.Reach.{reached-within}
