@@ -9,8 +9,8 @@ use crate::score_calls::{mark_kinds, run_lists, Lists};
 use crate::tried::Tried;
 use crate::waves::WAVES;
 
-/// How many calls are tried where no number is given: of eight in nine a call is made.
-pub const COUNT: u64 = 1_250_000;
+/// How many calls are tried where no number is given: three in four are made at a hop of the domain.
+pub const COUNT: u64 = 1_500_000;
 
 /// Of the long scores.
 const HOPS: [u32; 6] = [1, 2, 3, 64, 4095, 4096];
@@ -20,6 +20,9 @@ fn mark(score: &Score, number: u32, tried: &mut Tried) {
         return;
     }
     mark_kinds(score, number, tried);
+    if !score.is_outside() {
+        tried.mark("made at a hop from 1 to 4,096");
+    }
     if number == 0 {
         let (kind, is) = score.slow_curve();
         tried.mark_wave(score.wave, kind, is);

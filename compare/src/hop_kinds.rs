@@ -6,8 +6,7 @@ use crate::reference::{place_read, refusal};
 use crate::score::Score;
 use crate::score_kinds::Kind;
 
-/// What the calls are worth a line for, by the number that they are refused with and the one that a hop of the
-/// domain would have had.
+/// What is judged before the hop, and what is judged after it.
 const BEFORE: [(u32, &str); 10] = [
     (1, "refused with 1 and a hop outside 1 to 4,096"),
     (2, "refused with 2 and a hop outside 1 to 4,096"),
@@ -62,7 +61,8 @@ impl Score {
         }
     }
 
-    fn is_outside(&self) -> bool {
+    /// Whether 35 is for its hop.
+    pub fn is_outside(&self) -> bool {
         !(1..=4096).contains(&self.hop)
     }
 

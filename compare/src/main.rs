@@ -10,8 +10,9 @@ mod borders;
 mod cases;
 mod dsp;
 mod engine;
-mod exponential;
 mod example;
+mod exponential;
+mod far_lane;
 mod grid;
 mod groove_cases;
 mod groove_vectors;
@@ -92,7 +93,8 @@ const USAGE: &str =
        compare notes [COUNT]     COUNT note calls of every outcome, 10^6 by default
        compare scores [COUNT [SEED]]  COUNT score calls in lists, 10^6 by default; a SEED for other calls
        compare mapped-scores [COUNT [SEED]]  COUNT score calls with tempo maps in lists, 1.25 x 10^6 by default
-       compare hops [COUNT [SEED]]  COUNT score calls at hops in lists, 1.25 x 10^6 by default
+       compare hops [COUNT [SEED]]  COUNT score calls at hops in lists, 1.5 x 10^6 by default
+       compare far-lane          curves about place 2^32 of a lane of 16 GiB, most of which are not in memory; minutes
        compare texts [COUNT]     COUNT text scores and damaged ones, 10^6 by default
        compare boards [COUNT]    COUNT operations on a board in lists, 10^7 by default
        compare board-vectors     writes the replay files of crates/board_vectors
@@ -142,6 +144,7 @@ fn main() -> ExitCode {
         ["hops"] => status(hop_calls::run(hop_calls::COUNT)),
         ["hops", count] => counted(count, hop_calls::run),
         ["hops", count, seed] => counted_from(count, seed, hop_calls::run),
+        ["far-lane"] => status(far_lane::run()),
         ["texts"] => status(texts::run(texts::COUNT)),
         ["texts", count] => counted(count, texts::run),
         ["boards"] => status(boards::run(boards::COUNT)),
