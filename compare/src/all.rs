@@ -2,8 +2,8 @@
 
 use crate::engine::Count;
 use crate::{
-    boards, helpers, kernels, mapped_calls, note_calls, progress, random, score_calls, texts,
-    tones, voices, wave_files,
+    boards, helpers, hop_calls, kernels, mapped_calls, note_calls, progress, random, score_calls,
+    texts, tones, voices, wave_files,
 };
 use std::process::{Command, Stdio};
 
@@ -14,7 +14,7 @@ const TEXTS: u64 = 1_000_000;
 /// One row of the table: what is compared, with what, and the run of one case in a number.
 type Part = (&'static str, &'static str, fn(u64) -> Count);
 
-const PARTS: [Part; 12] = [
+const PARTS: [Part; 13] = [
     ("float helpers", "Rust's operations", helpers::run),
     ("kernels", "det.rs and the request's words", |scale| {
         kernels::run_all(kernels::COUNT.div_ceil(scale), scale)
@@ -33,6 +33,11 @@ const PARTS: [Part; 12] = [
         "mapped score calls in lists",
         "render_seq_mapped",
         |scale| mapped_calls::run(mapped_calls::COUNT.div_ceil(scale)),
+    ),
+    (
+        "score calls at hops in lists",
+        "01's tally, curves widened",
+        |scale| hop_calls::run(hop_calls::COUNT.div_ceil(scale)),
     ),
     ("text scores", "01's text call", |scale| {
         texts::run(texts::COUNT.div_ceil(scale))

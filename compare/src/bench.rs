@@ -2,6 +2,7 @@
 //! library and original.
 
 use crate::harness::{h_note, h_score, NoteArgs, ScoreArgs};
+use crate::hop_bench;
 use crate::mapped_bench;
 use crate::voice_vectors::USUAL;
 use crate::waves::{envelope, voice_of, WAVES};
@@ -13,12 +14,12 @@ use tono::render::seq::shim::{note_signal, render, Voice};
 
 /// One second.
 const RATE: u32 = 48_000;
-const FRAMES: usize = 48_000;
+pub const FRAMES: usize = 48_000;
 /// Attack, decay, sustain, release and punch of the scores.
 const ENVELOPE: [f32; 5] = [0.01, 0.1, 0.7, 0.2, 0.2];
 /// A step of a second.
 const TEMPO: f32 = 60.0;
-const SECONDS: Timing = Timing {
+pub const SECONDS: Timing = Timing {
     tempo: TEMPO,
     steps_per_beat: 1,
     map: &[],
@@ -32,6 +33,8 @@ pub struct Bench {
     tempo: f32,
     steps_per_beat: u32,
     points: Vec<u32>,
+    hop: u32,
+    lane: Vec<f32>,
     pitch: Vec<f32>,
     duty: Vec<f32>,
     out: Vec<f32>,
@@ -53,6 +56,8 @@ impl Bench {
             tempo: TEMPO,
             steps_per_beat: 1,
             points: Vec::new(),
+            hop: 1,
+            lane: Vec::new(),
             pitch: vec![440.0; frames],
             duty: vec![0.5; frames],
             out: vec![0.0; frames],
@@ -76,6 +81,11 @@ impl Bench {
             points: points.to_vec(),
             ..self
         }
+    }
+
+    /// The same with a lane for curves, which is read at a hop.
+    pub fn with_lane(self, hop: u32, lane: Vec<f32>) -> Bench {
+        Bench { hop, lane, ..self }
     }
 
     pub fn our_note(&mut self, wave: u32) -> u32 {
@@ -104,12 +114,13 @@ impl Bench {
             points: &self.points,
             swing: 0.0,
             humanize: 0.0,
+            hop: self.hop,
             wave,
             duty: 0.5,
             knobs: &USUAL,
             env: &ENVELOPE,
             notes: words,
-            lane: &[],
+            lane: &self.lane,
             out: &mut self.out,
             note_buf: &mut self.note_buf,
             string: &mut self.string,
@@ -210,7 +221,7 @@ fn row(bench: &mut Bench, place: u32, name: &str, wave: SeqWave) -> [f64; 3] {
 }
 
 /// Prints tables in Markdown: nanoseconds a sample of a note, library and original, and their ratio;
-/// then those of mapped scores.
+/// then those of mapped scores and of curves at hops.
 pub fn run() {
     println!("| wave | note call | original | ratio | score of one note | original | ratio | chord of 16 | original | ratio |");
     println!("{}|", "|---".repeat(10));
@@ -225,4 +236,5 @@ pub fn run() {
     let [note, one, many] = logs.map(|log| (log / WAVES.len() as f64).exp());
     println!("| geometric mean | | | {note:.2} | | | {one:.2} | | | {many:.2} |");
     mapped_bench::run();
+    hop_bench::run();
 }

@@ -22,6 +22,7 @@ pub fn longest() -> [Score; 2] {
         points: Vec::new(),
         swing: 0.0,
         humanize: 0.0,
+        hop: 1,
         wave: 4,
         duty: 0.5,
         knobs: vec![0.5; 22],
@@ -46,6 +47,7 @@ pub fn long(wave: u32) -> Score {
         points: Vec::new(),
         swing: 0.5,
         humanize: 0.25,
+        hop: 1,
         wave,
         duty: 0.4,
         knobs: USUAL.to_vec(),
@@ -56,6 +58,44 @@ pub fn long(wave: u32) -> Score {
         note_buf: LONG,
         string: 9600,
     }
+}
+
+/// Curves all through and over a part, and a note that is cut at the end, with a lane that just reaches.
+pub fn long_hopped(wave: u32, hop: u32) -> Score {
+    let score = Score {
+        hop,
+        words: [
+            curve(0, 1_048_575, 7, 0.8),
+            curve(1, 100, 5, 0.5),
+            note(174, 4, 1500.0, 1.0),
+        ]
+        .concat(),
+        ..long(wave)
+    };
+    let values = 8 + (LONG - 1) / hop as usize;
+    Score {
+        lane: glide(values),
+        ..score
+    }
+}
+
+/// As long as the domain goes: a sawtooth whose curve has its last value in the lane's last place. A value
+/// that is read a frame too early or too late changes the phase of all frames after it.
+pub fn longest_hopped(hop: u32) -> Score {
+    let [empty, _] = longest();
+    Score {
+        hop,
+        wave: 2,
+        words: curve(0, 1_048_575, 1, 0.8).to_vec(),
+        lane: glide(2 + (LONGEST - 1) / hop as usize),
+        ..empty
+    }
+}
+
+/// From 30 hertz up to 3,000 and down again, over and over.
+fn glide(values: usize) -> Vec<f32> {
+    let up = |i: usize| (i * 37 % 6000).abs_diff(3000) as f32;
+    (0..values).map(|i| 30.0 + 0.99 * up(i)).collect()
 }
 
 /// 64 points, each a fraction of a beat after the one before, from one tempo evenly to another.

@@ -10,8 +10,9 @@ mod borders;
 mod cases;
 mod dsp;
 mod engine;
-mod exponential;
 mod example;
+mod exponential;
+mod far_lane;
 mod grid;
 mod groove_cases;
 mod groove_vectors;
@@ -19,6 +20,11 @@ mod growth;
 mod harness;
 mod helper_bench;
 mod helpers;
+mod hop_bench;
+mod hop_calls;
+mod hop_cases;
+mod hop_kinds;
+mod hop_random;
 mod kernel_bench;
 mod kernel_vectors;
 mod kernels;
@@ -73,6 +79,7 @@ const USAGE: &str =
        compare helpers [SCALE]   every f32 and 10^9 f64 patterns; one in SCALE of them
        compare bench             nanoseconds a sample of each wave by note and by score, library and original
        compare mapped-bench      the same of scores with tempo maps, and what a map costs a note; a part of bench
+       compare hop-bench         the same of a score of one note with a curve at some hops; a part of bench
        compare growth            how the time grows with frames and with notes
        compare helper-bench      nanoseconds a call of the float helpers, library and Rust
        compare vectors           writes the replay files of crates/float_vectors
@@ -84,8 +91,10 @@ const USAGE: &str =
        compare tones [SCALE]     every q of the quarter tones; one in SCALE of those above 65,535
        compare voices [COUNT]    COUNT notes of each wave, 10^5 by default
        compare notes [COUNT]     COUNT note calls of every outcome, 10^6 by default
-       compare scores [COUNT]    COUNT score calls in lists, 10^6 by default
-       compare mapped-scores [COUNT]  COUNT score calls with tempo maps in lists, 1.25 x 10^6 by default
+       compare scores [COUNT [SEED]]  COUNT score calls in lists, 10^6 by default; a SEED for other calls
+       compare mapped-scores [COUNT [SEED]]  COUNT score calls with tempo maps in lists, 1.25 x 10^6 by default
+       compare hops [COUNT [SEED]]  COUNT score calls at hops in lists, 1.5 x 10^6 by default
+       compare far-lane          curves about place 2^32 of a lane of 16 GiB, most of which are not in memory; minutes
        compare texts [COUNT]     COUNT text scores and damaged ones, 10^6 by default
        compare boards [COUNT]    COUNT operations on a board in lists, 10^7 by default
        compare board-vectors     writes the replay files of crates/board_vectors
@@ -112,6 +121,7 @@ fn main() -> ExitCode {
         ["helpers", scale] => scaled(scale, |scale| status(helpers::run(scale))),
         ["bench"] => done(bench::run()),
         ["mapped-bench"] => done(mapped_bench::run()),
+        ["hop-bench"] => done(hop_bench::run()),
         ["growth"] => done(growth::run()),
         ["helper-bench"] => done(helper_bench::run()),
         ["vectors"] => written(vectors::run()),
@@ -127,8 +137,14 @@ fn main() -> ExitCode {
         ["notes", count] => counted(count, note_calls::run),
         ["scores"] => status(score_calls::run(score_calls::COUNT)),
         ["scores", count] => counted(count, score_calls::run),
+        ["scores", count, seed] => counted_from(count, seed, score_calls::run),
         ["mapped-scores"] => status(mapped_calls::run(mapped_calls::COUNT)),
         ["mapped-scores", count] => counted(count, mapped_calls::run),
+        ["mapped-scores", count, seed] => counted_from(count, seed, mapped_calls::run),
+        ["hops"] => status(hop_calls::run(hop_calls::COUNT)),
+        ["hops", count] => counted(count, hop_calls::run),
+        ["hops", count, seed] => counted_from(count, seed, hop_calls::run),
+        ["far-lane"] => status(far_lane::run()),
         ["texts"] => status(texts::run(texts::COUNT)),
         ["texts", count] => counted(count, texts::run),
         ["boards"] => status(boards::run(boards::COUNT)),
@@ -156,6 +172,17 @@ fn main() -> ExitCode {
 fn counted(count: &str, run: impl Fn(u64) -> Count) -> ExitCode {
     match count.parse() {
         Ok(count) => status(run(count)),
+        Err(_) => usage(),
+    }
+}
+
+/// The same with other random cases for a `seed` that is not 0.
+fn counted_from(count: &str, seed: &str, run: impl Fn(u64) -> Count) -> ExitCode {
+    match seed.parse() {
+        Ok(seed) => {
+            random::set_run(seed);
+            counted(count, run)
+        }
         Err(_) => usage(),
     }
 }

@@ -16,7 +16,7 @@ fn map(points: &[(i64, u32, f32)]) -> Vec<u32> {
 
 /// Points at steps 0, 3 and 5: 7.5, 10 and 12 frames a step. Notes before, at and after the second
 /// point, one that ends on it, and one that spans both.
-fn slowing() -> Score {
+pub fn slowing() -> Score {
     let words = [
         note(0, 1, 440.0, 0.8),
         curve(1, 2, 1, 0.5),

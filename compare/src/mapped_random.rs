@@ -22,20 +22,7 @@ impl Score {
             score.rate = 8000;
         }
         let within = score.steps_within();
-        let count = match s.below(8) {
-            0 => s.below(3) as usize,
-            1 | 2 => 64,
-            _ => 1 + s.below(64) as usize,
-        };
-        // in half of them notes can pass the last point
-        let beats = Beats {
-            within: within >> s.pick(&[0, 0, 1, 2]),
-            steps_per_beat: score.steps_per_beat,
-            kinds: s.pick(&[8, 7]),
-        };
-        let points = beats.map(count, s);
-        score.points = words_of(&points);
-        let on = on_steps(&points, score.steps_per_beat);
+        let on = score.add_map(within, s);
         let grid = Grid::of(&score.call());
         for _ in 0..s.pick(&[0, 1, 2, 3, 4, 5, 5, 12]) {
             let span = score.mapped_span(&on, within, s);
@@ -53,14 +40,32 @@ impl Score {
         score
     }
 
+    /// A tempo map, or none, for notes of about so many steps; and the steps that stand on a point's beat.
+    pub fn add_map(&mut self, within: u64, s: &mut Source) -> Vec<u32> {
+        let count = match s.below(8) {
+            0 => s.below(3) as usize,
+            1 | 2 => 64,
+            _ => 1 + s.below(64) as usize,
+        };
+        // in half of them notes can pass the last point
+        let beats = Beats {
+            within: within >> s.pick(&[0, 0, 1, 2]),
+            steps_per_beat: self.steps_per_beat,
+            kinds: s.pick(&[8, 7]),
+        };
+        let points = beats.map(count, s);
+        self.points = words_of(&points);
+        on_steps(&points, self.steps_per_beat)
+    }
+
     /// How many steps of a middling tempo there are in the frames.
-    fn steps_within(&self) -> u64 {
+    pub fn steps_within(&self) -> u64 {
         let step = self.rate as f32 / 10.0 / self.steps_per_beat as f32;
         (self.out as f32 / step) as u64
     }
 
     /// Step and len of a note: often one that starts or ends on a point, or at the step of the last.
-    fn mapped_span(&self, on: &[u32], within: u64, s: &mut Source) -> [u32; 2] {
+    pub fn mapped_span(&self, on: &[u32], within: u64, s: &mut Source) -> [u32; 2] {
         let len = steps(s, 6);
         let step = match s.below(8) {
             0 if !self.words.is_empty() => self.words[self.words.len() - 5],
@@ -72,7 +77,7 @@ impl Score {
     }
 
     /// One fault of the points, or what looks like one.
-    fn spoil_points(&mut self, s: &mut Source) {
+    pub fn spoil_points(&mut self, s: &mut Source) {
         let mut points = points_of(&self.points);
         match s.below(8) {
             0 => {

@@ -1,5 +1,5 @@
-//! What document 01, and 02 of tempo maps, ask of a note call and of a list of score calls, with the
-//! original's voices, groove and mix for the sound. Nothing here comes from the library. Words in quotes
+//! What document 01, and 02 of tempo maps and of hops, ask of a note call and of a list of score calls, with
+//! the original's voices, groove and mix for the sound. Nothing here comes from the library. Words in quotes
 //! are theirs.
 
 use crate::grid::{bare, Grid};
@@ -7,6 +7,7 @@ use crate::random::{draw, state_at};
 use crate::tempo_points::{are_outside, are_unordered, points_of};
 use crate::tones::quarter_tone;
 use crate::waves::{envelope, voice_of, wave_at};
+use std::iter::repeat_n;
 use tono::dsl::{SeqNote, SeqWave, TempoPoint, Value};
 use tono::dsp::Rng;
 use tono::render::seq::shim::{note_signal, render, Voice};
@@ -15,6 +16,8 @@ use tono::render::seq::shim::{note_signal, render, Voice};
 const MOST_FRAMES: usize = 16_777_216;
 /// "string buffer shorter than 9,600 values"
 const STRING: usize = 9600;
+/// "a hop h from 1 to 4,096"
+const MOST_HOP: u32 = 4096;
 /// C's answer where no call is made: there are not 22 knobs, or not 5 numbers of an envelope, or not
 /// four words for each tempo point, or the wave is not one of the 17.
 pub const NO_CALL: u32 = u32::MAX;
@@ -164,6 +167,7 @@ pub struct ScoreCall<'a> {
     pub points: &'a [u32],
     pub swing: f32,
     pub humanize: f32,
+    pub hop: u32,
     pub wave: u32,
     pub duty: f32,
     pub knobs: &'a [f32],
@@ -192,7 +196,7 @@ impl Tally {
     pub fn score_call(&mut self, call: &ScoreCall) -> Called {
         let voice = score_voice(call)?;
         let grid = Grid::of(call);
-        if let Some(number) = score_refusal(call).or_else(|| notes_refusal(call, &grid)) {
+        if let Some(number) = refusal(call, &grid) {
             return Some(Outcome::Refused(number));
         }
         let notes = call.words.chunks_exact(5);
@@ -213,7 +217,7 @@ impl Tally {
 /// "1 rate; 2 n; 3 tempo; 4 steps per beat; 5 swing or humanize: outside the domain"; "6 a knob of any
 /// of the four sets .. the duty or an envelope number isn't sized"; "20 and 21 after 6"; "7 note words
 /// not a multiple of five"; "11 a lane value, used or not, isn't sized"; 31 and 32 "both after 4 and in
-/// that order". A NaN is in no range.
+/// that order"; "a hop outside 1 to 4,096 with 35, directly before 7". A NaN is in no range.
 fn score_refusal(call: &ScoreCall) -> Option<u32> {
     let part = 0.0..=1.0;
     let points = points_of(call.points);
@@ -232,21 +236,22 @@ fn score_refusal(call: &ScoreCall) -> Option<u32> {
         (6, !voiced),
         (20, call.note_buf < call.out),
         (21, call.string < STRING),
+        (35, !(1..=MOST_HOP).contains(&call.hop)),
         (7, call.words.len() % 5 != 0),
         (11, !all_sized(call.lane)),
     ])
 }
 
-/// "then note by note: 8 kind above 1; 9 step or len; 10 gain or constant pitch not sized; 12 offset +
-/// length (module 4's, for skipped notes too) passes the lane's end"; a mapped note has its mapped
-/// length; "It refuses a q above 255 with 30, in the place of 12 for that note, and 8 now means a kind
-/// above 2."
+/// "then note by note: 8 kind above 1; 9 step or len; 10 gain or constant pitch not sized"; 12 "looks at
+/// offset + (length − 1) / h, cut, against the lane's last place; an empty lane has none", with the length of
+/// "skipped notes too"; a mapped note has its mapped length; "It refuses a q above 255 with 30, in the place
+/// of 12 for that note, and 8 now means a kind above 2."
 fn notes_refusal(call: &ScoreCall, grid: &Grid) -> Option<u32> {
     let mut notes = call.words.chunks_exact(5);
     notes.find_map(|w| {
         let (curve, tone) = (w[2] == 1, w[2] == 2);
         let pitched = curve || tone || is_sized(f32::from_bits(w[3]));
-        let passes = || w[3] as usize + grid.length(w) > call.lane.len();
+        let passes = || place_read(w, grid.length(w) - 1, call.hop) >= call.lane.len() as u64;
         first(&[
             (8, w[2] > 2),
             (9, w[0].max(w[1]) > 1_048_575),
@@ -255,6 +260,16 @@ fn notes_refusal(call: &ScoreCall, grid: &Grid) -> Option<u32> {
             (12, curve && passes()),
         ])
     })
+}
+
+/// The first refusal of a call but 22, for which its draws are needed.
+pub fn refusal(call: &ScoreCall, grid: &Grid) -> Option<u32> {
+    score_refusal(call).or_else(|| notes_refusal(call, grid))
+}
+
+/// The lane's place that frame i of a curve reads: "offset + i / h, cut", without bound.
+pub fn place_read(w: &[u32], i: usize, hop: u32) -> u64 {
+    w[3] as u64 + i as u64 / hop as u64
 }
 
 /// The voice with the score's own settings; none where no call is made.
@@ -272,15 +287,18 @@ fn score_voice(call: &ScoreCall) -> Option<Voice> {
 }
 
 impl ScoreCall<'_> {
-    /// A note of five words. "a curve at frame i is the lane's value at offset + i"
+    /// A note of five words, whose curve is widened: from the offset on each value of the lane h times, as
+    /// many as the note is long. "For other h the Rust is given the widened curve."
     fn note(&self, grid: &Grid, w: &[u32]) -> SeqNote {
-        let (offset, bare) = (w[3] as usize, bare(w));
-        match w[2] {
-            1 => SeqNote {
-                pitch: Value::Modulated(self.lane[offset..offset + grid.length(w)].to_vec()),
-                ..bare
-            },
-            _ => bare,
+        let bare = bare(w);
+        if w[2] != 1 {
+            return bare;
+        }
+        let values = self.lane[w[3] as usize..].iter();
+        let widened = values.flat_map(|&x| repeat_n(x, self.hop as usize));
+        SeqNote {
+            pitch: Value::Modulated(widened.take(grid.length(w)).collect()),
+            ..bare
         }
     }
 

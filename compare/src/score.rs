@@ -11,6 +11,8 @@ pub struct Score {
     pub points: Vec<u32>,
     pub swing: f32,
     pub humanize: f32,
+    /// How many frames a value of a curve is read for.
+    pub hop: u32,
     pub wave: u32,
     pub duty: f32,
     pub knobs: Vec<f32>,
@@ -31,6 +33,7 @@ impl Score {
             points: &self.points,
             swing: self.swing,
             humanize: self.humanize,
+            hop: self.hop,
             wave: self.wave,
             duty: self.duty,
             knobs: &self.knobs,

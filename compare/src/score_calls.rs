@@ -99,6 +99,7 @@ impl Buffers {
             points: self.points.part(),
             swing: score.swing,
             humanize: score.humanize,
+            hop: score.hop,
             wave: score.wave,
             duty: score.duty,
             knobs: self.knobs.part(),

@@ -42,6 +42,7 @@ pub fn usual() -> Score {
         points: Vec::new(),
         swing: 0.5,
         humanize: 0.25,
+        hop: 1,
         wave: 0,
         duty: 0.4,
         knobs: USUAL.to_vec(),

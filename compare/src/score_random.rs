@@ -59,6 +59,7 @@ impl Score {
             points: Vec::new(),
             swing: part(s),
             humanize: part(s),
+            hop: 1,
             wave: match s.below(2) {
                 0 => s.pick(&WAVES).0,
                 _ => s.pick(&[4, 6, 7, 12]),
@@ -76,7 +77,7 @@ impl Score {
 
     /// Step and len of a note: mostly at a step that starts within the frames or just after them, often
     /// at one that has a note.
-    fn span(&self, s: &mut Source) -> [u32; 2] {
+    pub fn span(&self, s: &mut Source) -> [u32; 2] {
         let within = self.out as f32 / Grid::of(&self.call()).samples_per_step();
         let step = match s.below(5) {
             0 if !self.words.is_empty() => self.words[self.words.len() - 5],

@@ -1,6 +1,7 @@
 //! The replay files of crates/score_vectors. A line `open` gives a seed and a draw count, from which
 //! the session goes on; a line `score` is a call on it.
 
+use crate::hop_cases;
 use crate::mapped_cases;
 use crate::reference::{self, Tally};
 use crate::score::Score;
@@ -28,7 +29,7 @@ fn plain(words: &[u32]) -> String {
 
 fn line(score: &Score) -> String {
     format!(
-        "score {:x} {:08x} {:x} {:08x} {:08x} {:x} {:08x} {:x} {:x} {:x} {:x} {:x} {:x} {:x} {:x}{}{}{}{}{}",
+        "score {:x} {:08x} {:x} {:08x} {:08x} {:x} {:08x} {:x} {:x} {:x} {:x} {:x} {:x} {:x} {:x} {:x}{}{}{}{}{}",
         score.rate,
         score.tempo.to_bits(),
         score.steps_per_beat,
@@ -44,6 +45,7 @@ fn line(score: &Score) -> String {
         score.words.len(),
         score.lane.len(),
         score.points.len(),
+        score.hop,
         hex(&score.knobs),
         hex(&score.env),
         plain(&score.words),
@@ -116,6 +118,14 @@ pub fn run() -> io::Result<()> {
     }
     let mut tally = replay.open(0xfeed_beef_0000_0002, 2000);
     for score in mapped_cases::list() {
+        replay.score(&mut tally, &score);
+    }
+    for (i, score) in hop_cases::edges().iter().enumerate() {
+        let mut tally = replay.open(i as u64, 7 * i as u64);
+        replay.score(&mut tally, score);
+    }
+    let mut tally = replay.open(0xfeed_beef_0000_0003, 3000);
+    for score in hop_cases::list() {
         replay.score(&mut tally, &score);
     }
     let folder = Path::new(FOLDER);

@@ -34,6 +34,7 @@ fn usual(wave: u32) -> Score {
         points: Vec::new(),
         swing: 0.5,
         humanize: 0.25,
+        hop: 1,
         wave,
         duty: 0.4,
         knobs: USUAL.to_vec(),

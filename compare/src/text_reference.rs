@@ -119,6 +119,8 @@ fn read(text: &[u8]) -> Option<TextScore> {
             points: Vec::new(),
             swing: float(swing)?,
             humanize: float(humanize)?,
+            // "a text score has 1"
+            hop: 1,
             wave: voice.wave,
             duty: voice.duty,
             knobs: voice.knobs,

@@ -2,6 +2,7 @@ pub mod Places
 pub mod Sizing
 pub mod Magnitude
 pub mod Reach
+pub mod Hop
 pub mod Cases
 pub mod Gains
 pub mod Tones

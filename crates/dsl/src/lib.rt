@@ -17,6 +17,7 @@ pub use note::Decoded;
 pub use note::SeqNote;
 pub use note::Untuned;
 pub use pitch::Pitch;
+pub use pitch::Reading;
 pub use sized::all_sized;
 pub use sized::is_sized;
 pub use wave::SeqWave;

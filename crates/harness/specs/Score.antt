@@ -24,6 +24,7 @@ use Rattle.harness_knobs.specs.declared.EnvAt.the-variants as envelopes
 pub record ScoreExport : Type 0 where
   pub timing : Timing
   pub points : List ℕ
+  pub hop : ℕ
   pub wave : ℕ
   pub duty : Float
   pub knobs : List Float
@@ -39,7 +40,7 @@ pub record ScoreExport : Type 0 where
 -- what the score call is handed with the voice v and the envelope a
 abbrev pub scoreWith : SeqVoice → Adsr → ScoreExport → Score
 scoreWith v a e =
-    handed (record { timing = e .timing; voice = v; duty = e .duty; env = a }) (e .notes) (e .lane) (e .places .out₀) (e .buffer₀) (e .places .string₀)
+    handed (record { timing = e .timing; hop = e .hop; voice = v; duty = e .duty; env = a }) (e .notes) (e .lane) (e .places .out₀) (e .buffer₀) (e .places .string₀)
 
 -- no call is made without a voice, an envelope and whole points
 abbrev pub scoreCalledWith : VoiceAt → EnvAt → Bool → ScoreExport → Called

@@ -28,6 +28,7 @@ pub extern "C" fn h_score(
     points: &[u32],
     swing: f32,
     humanize: f32,
+    hop: u32,
     wave: u32,
     duty: f32,
     knobs: &[f32],
@@ -41,6 +42,7 @@ pub extern "C" fn h_score(
     ensures { λ r. ⌜ ScoreExported (record {
       timing = record { rate = rate; tempo = tempo; «steps_per_beat» = «steps_per_beat»; «tempo_map» = mapOf (now (points .entry)); swing = swing; humanize = humanize };
       points = now (points .entry);
+      hop = hop;
       wave = wave;
       duty = duty;
       knobs = now (knobs .entry);
@@ -83,6 +85,7 @@ pub extern "C" fn h_score(
     };
     let seq = Seq {
         timing,
+        hop,
         voice,
         duty,
         env,

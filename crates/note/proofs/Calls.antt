@@ -10,8 +10,9 @@ use lib.Ieee.{Float, nan}
 use Rattle.rng.specs.SplitMix64.{stateAfter}
 use Rattle.rng.specs.declared.Rng.{Rng}
 use Rattle.dsl.specs.Domain.{Rate, Frames}
-use Rattle.dsl.specs.Pitch.{pitchAt}
+use Rattle.dsl.specs.Pitch.{valueAt, reading, pitchAt}
 use Rattle.dsl.specs.declared.pitch.Pitch.the-variants.{Curve}
+use Rattle.dsl.proofs.Hop.{each-frame}
 use Rattle.counts.specs.Draws.{drawsOf}
 use Rattle.voice.specs.Voice.{noteFrames}
 use Rattle.outcome.specs.Answer.{Result, accepted, unless, seen, outAfter, free}
@@ -48,9 +49,9 @@ accepted-note-facts h e =
     }
 
 -- a slice is a curve from its first value on
-curve0 : (l : List Float) → pitchAt (Curve 0) l ≡ (λ i. getD l i nan)
-unfolding pitchAt
-curve0 l = λ j i. getD l (zero-add i j) nan
+curve0 : (l : List Float) → pitchAt (reading (Curve 0) 1) l ≡ (λ i. getD l i nan)
+unfolding valueAt
+curve0 l = λ j i. (each-frame (Curve 0) l i ∙ ap (λ (k : ℕ). getD l k nan) (zero-add i)) j
 
 module _ (e : NoteEvent) where
   abbrev at : Verdict
@@ -74,8 +75,8 @@ module _ (e : NoteEvent) where
       }
 
   pub accepted-note : Fine ≡ at → (g : Rng) (t : ℕ) → t ≡ drawsOf (e .voice .wave) (e .rate) (getD (e .pitch) 0 nan) (length (e .out₀))
-      → g .0 ≡ stateAfter (e .rng .0) (drawsOf (e .voice .wave) (e .rate) (pitchAt (Curve 0) (e .pitch) 0) (length (e .out₀))) → e .answer ≡ record { rng = g; outcome = Played t }
-      → e .out ≡ noteFrames (e .rate) (e .voice) (e .gain) (pitchAt (Curve 0) (e .pitch)) (pitchAt (Curve 0) (e .duty)) (e .rng .0) (length (e .out₀))
+      → g .0 ≡ stateAfter (e .rng .0) (drawsOf (e .voice .wave) (e .rate) (pitchAt (reading (Curve 0) 1) (e .pitch) 0) (length (e .out₀))) → e .answer ≡ record { rng = g; outcome = Played t }
+      → e .out ≡ noteFrames (e .rate) (e .voice) (e .gain) (pitchAt (reading (Curve 0) 1) (e .pitch)) (pitchAt (reading (Curve 0) 1) (e .duty)) (e .rng .0) (length (e .out₀))
       → drop 9600 (e .string) ≡ drop 9600 (e .string₀) → Voiced e
   accepted-note n g t et eg ans o s =
       let q = comes-to n in

@@ -3,6 +3,7 @@ ghost use Rattle.note.specs.NoteCall.{Voiced};
 use crate::answer::NoteAnswer;
 use crate::answer::refused;
 use dsl::Pitch;
+use dsl::Reading;
 use dsl::SeqVoice;
 use note_verdict::note_call_verdict;
 use outcome::Outcome;
@@ -43,7 +44,7 @@ pub fn seq_note_signal(
     }
     let wave = voice.wave;
     let e = counts::draw_count(wave, rate, pitch[0], n);
-    let curve = Pitch::Curve(0);
+    let curve = Reading::new(Pitch::Curve(0), 1);
     let after = voice::voice_note(
         rng,
         rate,

@@ -3,7 +3,7 @@ use Prim.Native.Nat.{ℕ}
 use mathlib.Core.List.{List, []}
 use lib.Ieee.{Float}
 use Rattle.outcome.specs.declared.answer.Refusal.{Refusal}
-use Rattle.outcome.specs.declared.answer.Refusal.the-variants.{Rate, Frames, Tempo, StepsPerBeat, Tone, TempoPoints, TempoOrder, Groove, Knobs, Words}
+use Rattle.outcome.specs.declared.answer.Refusal.the-variants.{Rate, Frames, Tempo, StepsPerBeat, Tone, TempoPoints, TempoOrder, Groove, Knobs, Hop, Words}
 use Rattle.outcome.specs.declared.answer.Refusal.the-variants.{Kind, Steps, Size, Lane, Reach, NoPitch, Lengths, NoteBuffer, StringBuffer, Draws}
 use Rattle.outcome.specs.declared.answer.Outcome.{Outcome}
 use Rattle.outcome.specs.declared.answer.Outcome.the-variants.{Played, Refused}
@@ -21,6 +21,7 @@ numberOf TempoPoints = 31
 numberOf TempoOrder = 32
 numberOf Groove = 5
 numberOf Knobs = 6
+numberOf Hop = 35
 numberOf Words = 7
 numberOf Kind = 8
 numberOf Steps = 9

@@ -1,7 +1,7 @@
 -- What a score, or a note of it, that is not refused is known to be. Use wherever an accepted call leans on the domain. Assumes nothing.
 use Prim.Native.Nat.{ℕ, _+_, _*_, _%_, _≤_, _<_}
-use mathlib.Core.Path.{_≡_, sym, ap, _∙_}
-use mathlib.Core.Bool.{true, true≢false}
+use mathlib.Core.Path.{_≡_, refl, sym, ap, _∙_}
+use mathlib.Core.Bool.{true, false, true≢false}
 use native.Mathlib.Omega.{arith}
 use borrow.Author.Tests.{ltb-false, eqb-true, not-false}
 use lib.ListN.{length}
@@ -12,19 +12,19 @@ use Rattle.dsl.specs.Domain.{Rate, Frames, numeric}
 use Rattle.dsl.specs.Sized.{sizedOf, allSized, pitchSized}
 use Rattle.dsl.specs.Knobs.{knobList, envList}
 use Rattle.dsl.specs.Note.{ofNote}
-use Rattle.dsl.specs.Pitch.{reaches}
+use Rattle.dsl.specs.Pitch.{reading, passes, reaches}
 use Rattle.dsl.specs.declared.note.SeqNote.{SeqNote}
 use Rattle.dsl.specs.declared.note.Decoded.{Decoded}
 use Rattle.dsl.specs.declared.note.Decoded.the-variants.{Note}
 use Rattle.dsl.proofs.Magnitude.{sized-numeric}
-use Rattle.dsl.proofs.Reach.{reaches-less}
+use Rattle.dsl.proofs.Reach.{passes-less}
 use Rattle.dsl.proofs.Cases.{NoNote, by-words}
 use Rattle.outcome.specs.First.{firstOf}
 use Rattle.outcome.specs.declared.answer.Verdict.the-variants.{Fine}
 use Rattle.outcome.proofs.First.{none-holds, or-fine, inside-least, inside-most, each-fine}
 use Rattle.score.specs.Score.{Score, rateIn, noteIn, noteCount, place}
 use Rattle.tempo.specs.Judge.{inDomain, inOrder}
-use Rattle.score.proofs.Standing.{len-least, sounded-most}
+use Rattle.score.proofs.Standing.{len-least, len-under, sounded-most}
 use Rattle.score.specs.Refusals.{callTests, noteTests, untunedTests, noteRefusal, refusal, Clean}
 
 -- ---- a note
@@ -35,7 +35,7 @@ pub record NoteFine (s : Score) (m : SeqNote) : Type 0 where
   pub gain : sizedOf (m .gain) ≡ true
   pub pitch : pitchSized (m .pitch) ≡ true
   pub number : numeric (m .pitch)
-  pub reached : reaches (m .pitch) (length (s .lane)) (place s m .len)
+  pub reached : passes (m .pitch) (s .seq .hop) (length (s .lane)) (place s m .len) ≡ false
 
 pub note-fine : (s : Score) (m : SeqNote) → noteRefusal s (Note m) ≡ Fine → NoteFine s m
 unfolding noteRefusal
@@ -62,10 +62,6 @@ module _ (s : Score) (clean : Clean s) (k : ℕ) (lt : k < noteCount s) where
   pub clean-note : (m : SeqNote) → noteIn s k ≡ Note m → NoteFine s m
   clean-note m is = note-fine s m (ap (noteRefusal s) (sym is) ∙ clean k lt)
 
--- the frames that sound are no more than the length
-pub sounded-reached : (s : Score) (m : SeqNote) → NoteFine s m → reaches (m .pitch) (length (s .lane)) (place s m .sounded)
-sounded-reached s m fine = reaches-less (m .pitch) (length (s .lane)) _ _ (fine .reached) (sounded-most (s .seq .timing) (s .n) m)
-
 -- the five words of a note are among the words
 pub words-within : (s : Score) (k : ℕ) → k < noteCount s → k * 5 + 4 < length (s .notes)
 words-within s k h = omega arith
@@ -87,12 +83,14 @@ pub record Fit (s : Score) : Type 0 where
   pub env : allSized (envList (s .seq .env)) ≡ true
   pub buffered : s .n ≤ s .room
   pub stringed : 9600 ≤ s .string
+  pub hop-least : 1 ≤ s .seq .hop
+  pub hop-most : s .seq .hop ≤ 4096
   pub fives : length (s .notes) % 5 ≡ 0
   pub lane : allSized (s .lane) ≡ true
 
 pub fit : (s : Score) → firstOf (callTests s) ≡ Fine → Fit s
 fit s e =
-    let (rate, (n, (tempo, (steps, (points, (order, (swing, (human, (knobs, (duty, (env, (room, (string, (words, (lane, _))))))))))))))) = none-holds (callTests s) e in
+    let (rate, (n, (tempo, (steps, (points, (order, (swing, (human, (knobs, (duty, (env, (room, (string, (hop, (words, (lane, _)))))))))))))))) = none-holds (callTests s) e in
     record {
       rate = record { least = inside-least _ _ _ rate; most = inside-most _ _ _ rate };
       frames = record { most = ltb-false _ _ n };
@@ -108,9 +106,27 @@ fit s e =
       env = not-false _ env;
       buffered = ltb-false _ _ room;
       stringed = ltb-false _ _ string;
+      hop-least = inside-least _ _ _ hop;
+      hop-most = inside-most _ _ _ hop;
       fives = eqb-true _ _ (not-false _ words);
       lane = not-false _ lane;
     }
+
+-- of a note that is not refused as many frames as its length, or fewer, can be read
+pub frames-reached : (s : Score) → Fit s → (m : SeqNote) → NoteFine s m → (n : ℕ) → n ≤ place s m .len → n ≤ 16777216 → reaches (reading (m .pitch) (s .seq .hop)) (length (s .lane)) n
+frames-reached s fit m fine n le few = record {
+  is = refl;
+  least = fit .hop-least;
+  most = fit .hop-most;
+  few = few;
+  within = passes-less (m .pitch) (s .seq .hop) (length (s .lane)) _ n (fit .hop-least) (fine .reached) le;
+}
+
+-- the frames that sound are no more than the length
+pub sounded-reached : (s : Score) → Fit s → (m : SeqNote) → NoteFine s m → reaches (reading (m .pitch) (s .seq .hop)) (length (s .lane)) (place s m .sounded)
+sounded-reached s fit m fine =
+    let less = sounded-most (s .seq .timing) (s .n) m in
+    frames-reached s fit m fine _ less (omega (arith, less, len-under (s .seq .timing) (s .n) m (fit .frames), fit .frames .most))
 
 pub record Accepted (s : Score) : Type 0 where
   pub fit : Fit s
@@ -135,5 +151,5 @@ module _ (s : Score) (ok : refusal s ≡ Fine) (k : ℕ) (lt : k < noteCount s) 
   place-asks = (accepted-score s ok .fit .frames, fine-in .number)
 
   -- its first pitch can be read
-  pub first-reached : reaches (m .pitch) (length (s .lane)) 1
-  first-reached = reaches-less (m .pitch) (length (s .lane)) _ 1 (fine-in .reached) (len-least (s .seq .timing) (s .n) m)
+  pub first-reached : reaches (reading (m .pitch) (s .seq .hop)) (length (s .lane)) 1
+  first-reached = frames-reached s (accepted-score s ok .fit) m fine-in 1 (len-least (s .seq .timing) (s .n) m) (omega arith)

@@ -4,9 +4,14 @@ use mathlib.Core.Path.{_≡_, refl}
 use mathlib.Core.Bool.{Bool, true, false, cond}
 use lib.Dec.{eqb}
 use lib.ListN.{length}
+use lib.Ieee.{Float}
 use Rattle.dsl.specs.Domain.{Frames}
+use Rattle.dsl.specs.declared.pitch.Pitch.the-variants.{Curve}
 use Rattle.dsl.specs.declared.note.SeqNote.{SeqNote}
 use Rattle.tempo.specs.Map.{points}
+use Rattle.groove.specs.Humanize.{identityOf, seedOf, humanizeDraws}
+use Rattle.groove.specs.Timing.{humanDelay, humanGain, grooveOf}
+use Rattle.groove.specs.Mapped.{endStep, humanDelay64, mappedOf}
 use Rattle.groove.specs.Length.{soundedOf}
 use Rattle.groove.proofs.Room.{length-least, length-most, mapped-least, mapped-most, sounded-le}
 use Rattle.score.specs.Score.{durOf, straightPlace, mappedPlace, placeOf}
@@ -39,3 +44,12 @@ module _ (t : Timing) (n : ℕ) (m : SeqNote) where
 
   pub sounded-most : placeOf t n m .sounded ≤ placeOf t n m .len
   sounded-most = rw sounded-is (sounded-le n (placeOf t n m .start) (placeOf t n m .len))
+
+-- ---- a note whose pitch is a curve
+abbrev pub curved : ℕ → ℕ → ℕ → Float → SeqNote
+curved step len offset gain = record { step = step; len = len; pitch = Curve offset; gain = gain }
+
+-- where it stands does not depend on the curve's offset
+pub stands-alike : (t : Timing) (n step len offset offset′ : ℕ) (gain : Float) → placeOf t n (curved step len offset gain) ≡ placeOf t n (curved step len offset′ gain)
+unfolding placeOf straightPlace mappedPlace grooveOf mappedOf humanDelay humanDelay64 humanGain humanizeDraws seedOf identityOf endStep
+stands-alike t n step len offset offset′ gain = refl

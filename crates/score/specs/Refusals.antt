@@ -19,7 +19,7 @@ use Rattle.tempo.specs.Judge.{inDomain, inOrder}
 use Rattle.tempo.specs.declared.map.TempoMap.{TempoMap}
 use Rattle.outcome.specs.First.{Test, _⇒_, firstOf, orElse, firstRefusal, outside}
 use Rattle.outcome.specs.Domain.{domainTests}
-use Rattle.outcome.specs.declared.answer.Refusal.the-variants.{Tempo, StepsPerBeat, TempoPoints, TempoOrder, Groove, Knobs, NoteBuffer, StringBuffer}
+use Rattle.outcome.specs.declared.answer.Refusal.the-variants.{Tempo, StepsPerBeat, TempoPoints, TempoOrder, Groove, Knobs, NoteBuffer, StringBuffer, Hop}
 use Rattle.outcome.specs.declared.answer.Refusal.the-variants.{Words, Lane, Kind, Steps, Size, Reach, Tone, Draws}
 use Rattle.outcome.specs.declared.answer.Verdict.{Verdict}
 use Rattle.outcome.specs.declared.answer.Verdict.the-variants.{Fine, Refuse}
@@ -51,9 +51,9 @@ voiceTests q = (not (allSized (knobList (q .voice))) ⇒ Knobs) ∷ (not (sizedO
 abbrev pub lentTests : Score → List Test
 lentTests s = (ltb (s .room) (s .n) ⇒ NoteBuffer) ∷ (ltb (s .string) 9600 ⇒ StringBuffer) ∷ []
 
--- "7 note words not a multiple of five; 11 a lane value, used or not, isn't sized"
+-- "It refuses a hop outside 1 to 4,096 with 35, directly before 7"; "7 note words not a multiple of five; 11 a lane value, used or not, isn't sized"
 abbrev pub listTests : Score → List Test
-listTests s = (not (eqb (length (s .notes) % 5) 0) ⇒ Words) ∷ (not (allSized (s .lane)) ⇒ Lane) ∷ []
+listTests s = (outside (s .seq .hop) 1 4096 ⇒ Hop) ∷ (not (eqb (length (s .notes) % 5) 0) ⇒ Words) ∷ (not (allSized (s .lane)) ⇒ Lane) ∷ []
 
 -- "Tested in this order, 20 and 21 after 6"
 abbrev pub callTests : Score → List Test
@@ -67,9 +67,9 @@ wordTests step len gain = (ltb 1048575 step ⇒ Steps) ∷ (ltb 1048575 len ⇒ 
 abbrev pub valueTests : SeqNote → List Test
 valueTests m = wordTests (m .step) (m .len) (m .gain) ++ (not (pitchSized (m .pitch)) ⇒ Size) ∷ []
 
--- "12 offset + length (module 4's, for skipped notes too) passes the lane's end"
+-- "Refusal 12 now looks at offset + (length − 1) / h, cut, against the lane's last place": the length is module 4's, "for skipped notes too"
 abbrev pub noteTests : Score → SeqNote → List Test
-noteTests s m = valueTests m ++ (passes (m .pitch) (length (s .lane)) (place s m .len) ⇒ Reach) ∷ []
+noteTests s m = valueTests m ++ (passes (m .pitch) (s .seq .hop) (length (s .lane)) (place s m .len) ⇒ Reach) ∷ []
 
 -- "It refuses a q above 255 with 30, in the place of 12 for that note"
 abbrev pub untunedTests : Untuned → List Test

@@ -7,7 +7,7 @@ use lib.Dec.{eqb}
 use lib.Ieee.{Float}
 use Rattle.laws.specs.Listed.{listed}
 use Rattle.dsl.specs.Note.{noteOf, ofNote}
-use Rattle.dsl.specs.Pitch.{pitchAt}
+use Rattle.dsl.specs.Pitch.{reading, pitchAt}
 use Rattle.dsl.specs.declared.wave.SeqWave.{SeqWave}
 use Rattle.dsl.specs.declared.note.SeqNote.{SeqNote}
 use Rattle.dsl.specs.declared.note.Decoded.{Decoded}
@@ -91,9 +91,9 @@ module _ (s : Score) (m : SeqNote) where
   abbrev pub skips : Bool
   skips = skipped (s .n) (place .start)
 
-  -- the note's pitch, by frame
+  -- the note's pitch, by frame: "All voices take their pitch through that reading."
   abbrev pub pitch : ℕ → Float
-  pitch = pitchAt (m .pitch) (s .lane)
+  pitch = pitchAt (reading (m .pitch) (s .seq .hop)) (s .lane)
 
   -- e: demand 3's draws of a sounded note; "A skipped note leaves x"
   unfoldable pub drawsIn : ℕ

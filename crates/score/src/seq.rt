@@ -13,9 +13,11 @@ pub struct Timing {
     pub humanize: f32,
 }
 
-// `Node::Seq` of the source, and the rate. The duty of a score is a number.
+// `Node::Seq` of the source, the rate, and the hop: a curve has a value each `hop` frames. The duty of a
+// score is a number.
 pub struct Seq {
     pub timing: Timing,
+    pub hop: u32,
     pub voice: SeqVoice,
     pub duty: f32,
     pub env: Adsr,

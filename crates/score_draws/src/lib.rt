@@ -7,6 +7,7 @@ ghost use Rattle.score.specs.Score.{scoreOf, noteIn, noteDraws, scoreDraws};
 ghost use Rattle.score.specs.Refusals.{refusal};
 ghost use Rattle.score_draws.specs.Sum.{sumOf};
 use dsl::Decoded;
+use dsl::Reading;
 use score::Lent;
 use score::Seq;
 
@@ -25,9 +26,10 @@ fn note_draws(seq: Seq, notes: &[u32], lane: &[f32], lent: Lent, k: usize) -> us
         return 0;
     }
     let pitch = note.pitch;
+    let reading = Reading::new(pitch, seq.hop);
     let voice = seq.voice;
     let wave = voice.wave;
-    counts::draw_count(wave, timing.rate, pitch.at(lane, 0), place.sounded)
+    counts::draw_count(wave, timing.rate, reading.at(lane, 0), place.sounded)
 }
 
 // A sum that may not be more than what is left.

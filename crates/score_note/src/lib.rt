@@ -4,11 +4,12 @@ ghost use Prim.Native.Nat.{_+_, _≤_, _<_};
 ghost use lib.ListN.{length, drop};
 ghost use Rattle.rng.specs.SplitMix64.{stateAfter};
 ghost use Rattle.dsl.specs.Domain.{Rate, Frames};
-ghost use Rattle.dsl.specs.Pitch.{pitchAt, reaches};
+ghost use Rattle.dsl.specs.Pitch.{reading, pitchAt, reaches};
 ghost use Rattle.counts.specs.Draws.{drawsOf};
 ghost use Rattle.voice.specs.Voice.{noteFrames};
 ghost use Rattle.mix.specs.Mix.{mixedAt};
 use dsl::Pitch;
+use dsl::Reading;
 use dsl::SeqNote;
 use rng::Rng;
 use score::Place;
@@ -31,18 +32,20 @@ pub fn sound_note(
     requires { ⌜ 0 < place .sounded ⌝ }
     requires { ⌜ place .start + place .sounded ≤ length (now out) ⌝ }
     requires { ⌜ Frames (place .len) ⌝ }
-    requires { ⌜ reaches (note .pitch) (length (now lane)) (place .sounded) ⌝ }
+    requires { ⌜ reaches (reading (note .pitch) (seq .hop)) (length (now lane)) (place .sounded) ⌝ }
     requires { ⌜ length (now out) ≤ length (now «note_buf») ⌝ }
     requires { ⌜ 9600 ≤ length (now string) ⌝ }
-    ensures { λ r. ⌜ r .0 ≡ stateAfter (rng .0) (drawsOf (seq .voice .wave) (seq .timing .rate) (pitchAt (note .pitch) (now (lane .entry)) 0) (place .sounded)) ⌝ }
-    ensures { λ _. ⌜ now (out .exit) ≡ mixedAt (place .start) (noteFrames (seq .timing .rate) (seq .voice) (note .gain) (pitchAt (note .pitch) (now (lane .entry))) (λ _. seq .duty) (rng .0) (place .sounded)) (seq .env) (place .len) (seq .timing .rate) (place .gain) (now (out .entry)) ⌝ }
+    ensures { λ r. ⌜ r .0 ≡ stateAfter (rng .0) (drawsOf (seq .voice .wave) (seq .timing .rate) (pitchAt (reading (note .pitch) (seq .hop)) (now (lane .entry)) 0) (place .sounded)) ⌝ }
+    ensures { λ _. ⌜ now (out .exit) ≡ mixedAt (place .start) (noteFrames (seq .timing .rate) (seq .voice) (note .gain) (pitchAt (reading (note .pitch) (seq .hop)) (now (lane .entry))) (λ _. seq .duty) (rng .0) (place .sounded)) (seq .env) (place .len) (seq .timing .rate) (place .gain) (now (out .entry)) ⌝ }
     ensures { λ _. ⌜ drop (length (now (out .entry))) (now («note_buf» .exit)) ≡ drop (length (now (out .entry))) (now («note_buf» .entry)) ⌝ }
     ensures { λ _. ⌜ drop 9600 (now (string .exit)) ≡ drop 9600 (now (string .entry)) ⌝ }
 {
     let timing = seq.timing;
     let rate = timing.rate;
     let pitch = note.pitch;
-    let duty = Pitch::Const(seq.duty);
+    let reading = Reading::new(pitch, seq.hop);
+    let level = Pitch::Const(seq.duty);
+    let duty = Reading::new(level, 1);
     let sounded = place.sounded;
     let sig = &mut note_buf[..sounded];
     let after = voice::voice_note(
@@ -50,7 +53,7 @@ pub fn sound_note(
         rate,
         seq.voice,
         note.gain,
-        pitch,
+        reading,
         lane,
         duty,
         lane,

@@ -8,7 +8,7 @@ use lib.Ieee.{Float}
 use Rattle.rng.specs.SplitMix64.{stateAfter}
 use Rattle.rng.proofs.States.{state-none}
 use Rattle.dsl.specs.Domain.{Frames}
-use Rattle.dsl.specs.Pitch.{pitchAt, reaches}
+use Rattle.dsl.specs.Pitch.{reading, pitchAt, reaches}
 use Rattle.dsl.specs.declared.note.SeqNote.{SeqNote}
 use Rattle.dsl.specs.declared.note.Decoded.{Decoded}
 use Rattle.dsl.specs.declared.note.Decoded.the-variants.{Note}
@@ -18,7 +18,7 @@ use Rattle.mix.specs.Mix.{mixedAt}
 use Rattle.score.specs.Score.{Score, rateIn, waveIn, place, noteDraws}
 use Rattle.score_contract.specs.Frames.{samplesIn, withNote}
 use Rattle.score.specs.declared.place.Place.{Place}
-use Rattle.score.proofs.Accepted.{NoteFine, sounded-reached}
+use Rattle.score.proofs.Accepted.{NoteFine, Fit, sounded-reached}
 use Rattle.score.proofs.Notes.{len-most, skipped-draws, some-sounded, all-within, sounded-draws}
 use Rattle.score_contract.proofs.Notes.{skipped-frames, sounded-frames}
 
@@ -29,13 +29,13 @@ module _ (s : Score) (d : Decoded) (m : SeqNote) (p : Place) (is : d ≡ Note m)
       rw is (sym (state-none g fits) ∙ ap (stateAfter g) (skipped-draws s m past), skipped-frames s m past g out)
 
   module _ (early : p .start < s .n) where
-    pub sound-asks : Frames (s .n) → NoteFine s m → (0 < p .sounded) × ((p .start + p .sounded ≤ s .n) × (Frames (p .len) × reaches (m .pitch) (length (s .lane)) (p .sounded)))
-    sound-asks few fine =
+    pub sound-asks : Fit s → NoteFine s m → (0 < p .sounded) × ((p .start + p .sounded ≤ s .n) × (Frames (p .len) × reaches (reading (m .pitch) (s .seq .hop)) (length (s .lane)) (p .sounded)))
+    sound-asks fit fine =
         let heard = lt-leb _ _ (rw at at early) in
-        rw at (some-sounded s m heard, (all-within s m heard, (len-most s m few, sounded-reached s m fine)))
+        rw at (some-sounded s m heard, (all-within s m heard, (len-most s m (fit .frames), sounded-reached s fit m fine)))
 
-    pub sounded-note : (g r : ℕ) (out after : List Float) → r ≡ stateAfter g (drawsOf (waveIn s) (rateIn s) (pitchAt (m .pitch) (s .lane) 0) (p .sounded))
-        → after ≡ mixedAt (p .start) (noteFrames (rateIn s) (s .seq .voice) (m .gain) (pitchAt (m .pitch) (s .lane)) (λ _. s .seq .duty) g (p .sounded)) (s .seq .env) (p .len) (rateIn s) (p .gain) out
+    pub sounded-note : (g r : ℕ) (out after : List Float) → r ≡ stateAfter g (drawsOf (waveIn s) (rateIn s) (pitchAt (reading (m .pitch) (s .seq .hop)) (s .lane) 0) (p .sounded))
+        → after ≡ mixedAt (p .start) (noteFrames (rateIn s) (s .seq .voice) (m .gain) (pitchAt (reading (m .pitch) (s .seq .hop)) (s .lane)) (λ _. s .seq .duty) g (p .sounded)) (s .seq .env) (p .len) (rateIn s) (p .gain) out
         → (r ≡ stateAfter g (noteDraws s d)) × (after ≡ withNote s d g out)
     unfolding samplesIn
     sounded-note g r out after er eo =

@@ -2,7 +2,7 @@
 //   open SEED DRAW
 // which opens a session, or a call on it:
 //   score RATE TEMPO STEPS-PER-BEAT SWING HUMANIZE WAVE DUTY N NOTE-BUFFER STRING, then how many
-//   knobs, envelope numbers, note words, lane values and words of tempo points there are, and these
+//   knobs, envelope numbers, note words, lane values and words of tempo points there are, then HOP, and these
 // A session's state is appended, or a call's number, its draws, the session after it and the frames.
 ghost use Prim.Native.Nat.{_≤_};
 use dsl::Adsr;
@@ -64,12 +64,12 @@ fn point_words(line: &[u8], from: usize) -> [u32; 264]
 
 fn voice_of(line: &[u8]) -> VoiceAt {
     let count = vectors::length_field(line, 11, MOST);
-    let values = floats(line, 16);
+    let values = floats(line, 17);
     harness_knobs::voice_at(vectors::u32_field(line, 6), &values[..count])
 }
 
 fn env_of(line: &[u8]) -> EnvAt {
-    let from = 16 + vectors::length_field(line, 11, MOST);
+    let from = 17 + vectors::length_field(line, 11, MOST);
     let count = vectors::length_field(line, 12, MOST);
     let values = floats(line, from);
     harness_knobs::env_at(&values[..count])
@@ -77,7 +77,7 @@ fn env_of(line: &[u8]) -> EnvAt {
 
 // The points follow all other values.
 fn map_of(line: &[u8]) -> TempoMap {
-    let from = 16
+    let from = 17
         + vectors::length_field(line, 11, MOST)
         + vectors::length_field(line, 12, MOST)
         + vectors::length_field(line, 13, MOST)
@@ -98,6 +98,7 @@ fn seq_of(line: &[u8], voice: SeqVoice, env: Adsr) -> Seq {
     };
     Seq {
         timing,
+        hop: vectors::u32_field(line, 16),
         voice,
         duty: vectors::f32_field(line, 7),
         env,
@@ -166,7 +167,7 @@ fn call(line: &[u8], session: Session, seq: Seq, notes: &[u32], lane: &[f32]) ->
 fn score(line: &[u8], session: Session, seq: Seq) -> Session {
     let word_count = vectors::length_field(line, 13, MOST);
     let lane_count = vectors::length_field(line, 14, MOST);
-    let words_at = 16
+    let words_at = 17
         + vectors::length_field(line, 11, MOST)
         + vectors::length_field(line, 12, MOST);
     let notes = words(line, words_at);

@@ -1,14 +1,16 @@
 -- The verdicts of a score's notes and of the whole call, from those of its parts. Assumes nothing.
-use Prim.Native.Nat.{ℕ}
+use Prim.Native.Nat.{ℕ, _≤_}
 use mathlib.Core.Path.{_≡_, refl, sym, ap, _∙_}
 use mathlib.Core.List.{[], _∷_, map}
 use mathlib.Core.Bool.{Bool, true, false, not, cond}
 use lib.ListN.{length}
+use lib.Ieee.{Float}
 use borrow.Author.Tests.{not-false}
 use Rattle.laws.specs.Listed.{listed}
 use Rattle.laws.proofs.Listed.{from-map}
 use Rattle.dsl.specs.Domain.{Frames, numeric}
 use Rattle.dsl.specs.Pitch.{passes}
+use Rattle.dsl.specs.declared.pitch.Pitch.the-variants.{Const}
 use Rattle.dsl.specs.declared.note.SeqNote.{SeqNote}
 use Rattle.dsl.specs.declared.note.Untuned.{Untuned}
 use Rattle.dsl.specs.declared.note.Decoded.{Decoded}
@@ -58,9 +60,13 @@ module _ (s : Score) (m : SeqNote) where
     pub values-number : numeric (m .pitch)
     values-number = let (_, (_, (_, (p, _)))) = none-holds (valueTests m) (sym (fine ∙ turned Fine (valueTests m))) in sized-numeric (m .pitch) (not-false _ p)
 
-    pub reach-decides : {v : Verdict} → v ≡ cond (passes (m .pitch) (length (s .lane)) (place s m .len)) (Refuse Reach) Fine → v ≡ firstOf (noteTests s m)
+    pub reach-decides : {v : Verdict} → v ≡ cond (passes (m .pitch) (s .seq .hop) (length (s .lane)) (place s m .len)) (Refuse Reach) Fine → v ≡ firstOf (noteTests s m)
     unfolding firstOf
-    reach-decides found = chain-fine (valueTests m) ((passes (m .pitch) (length (s .lane)) (place s m .len) ⇒ Reach) ∷ []) fine found
+    reach-decides found = chain-fine (valueTests m) ((passes (m .pitch) (s .seq .hop) (length (s .lane)) (place s m .len) ⇒ Reach) ∷ []) fine found
+
+    -- a number passes no lane's end
+    pub number-decides : (x : Float) → m .pitch ≡ Const x → Fine ≡ firstOf (noteTests s m)
+    number-decides x is = reach-decides (rw is refl)
 
 -- words that are a note, or one without its quarter tone
 module _ (s : Score) (e : Decoded) where
@@ -88,6 +94,9 @@ module _ (s : Score) where
   module _ (fine : Fine ≡ firstAfter Fine (callTests s)) where
     pub call-frames : Frames (s .n)
     call-frames = fit s (sym (fine ∙ turned Fine (callTests s))) .frames
+
+    pub call-hop : 1 ≤ s .seq .hop
+    call-hop = fit s (sym (fine ∙ turned Fine (callTests s))) .hop-least
 
     pub notes-decide : {v : Verdict} → v ≡ firstRefusal (map (noteRefusal s) (notesIn s)) → v ≡ refusal s
     unfolding refusal

@@ -9,10 +9,11 @@ use crate::numbers::numbers_verdict;
 use outcome::Refusal;
 use outcome::Verdict;
 use outcome::or_else;
+use outcome::outside;
 use score::Lent;
 use score::Seq;
 
-// 6, 20, 21, 7 and 11, after what was found before.
+// 6, 20, 21, 35, 7 and 11, after what was found before.
 fn lists_verdict(found: Verdict, seq: Seq, notes: &[u32], lane: &[f32], lent: Lent) -> Verdict
     ensures { λ r. ⌜ r ≡ firstAfter found (voiceTests seq ++ (lentTests (scoreOf seq (now (notes .entry)) (now (lane .entry)) lent) ++ listTests (scoreOf seq (now (notes .entry)) (now (lane .entry)) lent))) ⌝ }
 {
@@ -21,6 +22,7 @@ fn lists_verdict(found: Verdict, seq: Seq, notes: &[u32], lane: &[f32], lent: Le
     let found = or_else(found, !dsl::env_sized(seq.env), Refusal::Knobs);
     let found = or_else(found, lent.room < lent.n, Refusal::NoteBuffer);
     let found = or_else(found, lent.string < 9600, Refusal::StringBuffer);
+    let found = or_else(found, outside(seq.hop, 1, 4096), Refusal::Hop);
     let found = or_else(found, notes.len() % 5 != 0, Refusal::Words);
     or_else(found, !dsl::all_sized(lane), Refusal::Lane)
 }

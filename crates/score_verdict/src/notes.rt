@@ -1,12 +1,14 @@
 // The refusals of a score's notes.
 ghost use mathlib.Core.Path.{_≡_};
 ghost use mathlib.Core.List.{map};
+ghost use Prim.Native.Nat.{_≤_};
 ghost use Rattle.dsl.specs.Domain.{Frames};
 ghost use Rattle.outcome.specs.First.{firstOf, firstAfter, firstRefusal};
 ghost use Rattle.outcome.specs.declared.answer.Verdict.the-variants.{Fine};
 ghost use Rattle.score.specs.Score.{scoreOf, notesIn};
 ghost use Rattle.score.specs.Refusals.{wordTests, valueTests, noteTests, untunedTests, noteRefusal};
 use dsl::Decoded;
+use dsl::Pitch;
 use dsl::SeqNote;
 use dsl::Untuned;
 use outcome::Refusal;
@@ -41,20 +43,24 @@ fn untuned_verdict(untuned: Untuned) -> Verdict
     or_else(found, true, Refusal::Tone)
 }
 
-// 9, 10 and 12, of a note. Its place is worked out once its pitch is known to be a number.
+// 9, 10 and 12, of a note. Only of a curve the place is worked out, and only once the note's numbers are fine.
 fn pitched_verdict(seq: Seq, notes: &[u32], lane: &[f32], lent: Lent, note: SeqNote) -> Verdict
     requires { ⌜ Frames (lent .n) ⌝ }
+    requires { ⌜ 1 ≤ seq .hop ⌝ }
     ensures { λ r. ⌜ r ≡ firstOf (noteTests (scoreOf seq (now (notes .entry)) (now (lane .entry)) lent) note) ⌝ }
 {
     let found = values_verdict(note);
     if let Verdict::Refuse(r) = found {
         return Verdict::Refuse(r);
     }
-    let place = score::place_note(seq.timing, lent.n, note);
     let pitch = note.pitch;
+    if let Pitch::Const(_) = pitch {
+        return Verdict::Fine;
+    }
+    let place = score::place_note(seq.timing, lent.n, note);
     or_else(
         Verdict::Fine,
-        pitch.passes(lane.len(), place.len),
+        pitch.passes(seq.hop, lane.len(), place.len),
         Refusal::Reach,
     )
 }
@@ -62,6 +68,7 @@ fn pitched_verdict(seq: Seq, notes: &[u32], lane: &[f32], lent: Lent, note: SeqN
 // 8, 9, 10, 30 and 12, of one note.
 fn note_verdict(seq: Seq, notes: &[u32], lane: &[f32], lent: Lent, note: Decoded) -> Verdict
     requires { ⌜ Frames (lent .n) ⌝ }
+    requires { ⌜ 1 ≤ seq .hop ⌝ }
     ensures { λ r. ⌜ r ≡ noteRefusal (scoreOf seq (now (notes .entry)) (now (lane .entry)) lent) note ⌝ }
 {
     match note {
@@ -74,6 +81,7 @@ fn note_verdict(seq: Seq, notes: &[u32], lane: &[f32], lent: Lent, note: Decoded
 // The first refusal of a note in list order.
 pub(crate) fn notes_verdict(seq: Seq, notes: &[u32], lane: &[f32], lent: Lent) -> Verdict
     requires { ⌜ Frames (lent .n) ⌝ }
+    requires { ⌜ 1 ≤ seq .hop ⌝ }
     ensures { λ r. ⌜ r ≡ firstRefusal (map (noteRefusal (scoreOf seq (now (notes .entry)) (now (lane .entry)) lent)) (notesIn (scoreOf seq (now (notes .entry)) (now (lane .entry)) lent))) ⌝ }
 {
     let count = notes.len() / 5;

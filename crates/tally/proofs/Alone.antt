@@ -1,5 +1,5 @@
 -- "Its samples are those of a note call": a sounded note of an accepted score, and the note call that plays it alone. Assumes nothing.
-use Prim.Native.Nat.{ℕ, _≤_, _<_}
+use Prim.Native.Nat.{ℕ, _+_, _/_, _≤_, _<_}
 use mathlib.Core.Path.{_≡_, refl, sym, ap, _∙_}
 use mathlib.Core.List.{List}
 use mathlib.Core.Bool.{true, false, not}
@@ -11,11 +11,12 @@ use Rattle.laws.specs.Listed.{listed}
 use Rattle.laws.proofs.If.{if-false}
 use Rattle.laws.proofs.Listed.{listed-length, listed-at}
 use Rattle.dsl.specs.Sized.{sizedOf, allSized, pitchSized}
-use Rattle.dsl.specs.Pitch.{pitchAt, reaches}
+use Rattle.dsl.specs.Pitch.{valueAt, reading, pitchAt, reaches}
 use Rattle.dsl.specs.declared.pitch.Pitch.{Pitch}
+use Rattle.dsl.specs.declared.pitch.Reading.{Reading}
 use Rattle.dsl.specs.declared.pitch.Pitch.the-variants.{Const, Curve}
 use Rattle.dsl.specs.declared.note.SeqNote.{SeqNote}
-use Rattle.dsl.proofs.Reach.{reached-within}
+use Rattle.dsl.proofs.Reach.{reaches-less, reached-within}
 use Rattle.counts.specs.Draws.{drawsOf}
 use Rattle.voice.proofs.Own.{note-same}
 use Rattle.outcome.specs.Answer.{accepted}
@@ -32,10 +33,15 @@ use Rattle.tally.specs.Alone.{aloneHanded, aloneOf, Alone}
 use Rattle.tally.proofs.Values.{all-listed, all-at}
 
 -- a pitch of an accepted score is sized at each frame within its lane
-pitch-sized : (p : Pitch) (lane : List Float) (len i : ℕ) → pitchSized p ≡ true → allSized lane ≡ true → reaches p (length lane) len → i < len → sizedOf (pitchAt p lane i) ≡ true
-unfolding pitchAt pitchSized
-pitch-sized (Const x) lane len i h all r lt = h
-pitch-sized (Curve offset) lane len i h all r lt = all-at lane _ all (omega (arith, reached-within offset (length lane) len refl r))
+value-sized : (p : Pitch) (lane : List Float) (k : ℕ) → pitchSized p ≡ true → allSized lane ≡ true → ((offset : ℕ) → p ≡ Curve offset → offset + k < length lane) → sizedOf (valueAt p lane k) ≡ true
+unfolding valueAt pitchSized
+value-sized (Const x) lane k h all within = h
+value-sized (Curve offset) lane k h all within = all-at lane _ all (within offset refl)
+
+pitch-sized : (r : Reading) (lane : List Float) (len i : ℕ) → pitchSized (r .pitch) ≡ true → allSized lane ≡ true → reaches r (length lane) len → i < len → sizedOf (pitchAt r lane i) ≡ true
+unfolding pitchAt
+pitch-sized r lane len i h all reached lt =
+    value-sized (r .pitch) lane (i / r .hop) h all (λ offset is. reached-within r offset (length lane) i is (reaches-less r (length lane) len (i + 1) reached (omega arith)))
 
 module _ (s : Score) (fit : Fit s) (m : SeqNote) (fine : NoteFine s m) (heard : skips s m ≡ false) where
   abbrev frames : ℕ
@@ -51,7 +57,7 @@ module _ (s : Score) (fit : Fit s) (m : SeqNote) (fine : NoteFine s m) (heard : 
   some = some-sounded s m heard
 
   each : (i : ℕ) → i < frames → sizedOf (pitch s m i) ≡ true
-  each i h = pitch-sized (m .pitch) (s .lane) frames i (fine .pitch) (fit .lane) (sounded-reached s m fine) h
+  each i h = pitch-sized (reading (m .pitch) (s .seq .hop)) (s .lane) frames i (fine .pitch) (fit .lane) (sounded-reached s fit m fine) h
 
   pub call-fine : noteCallRefusal (aloneHanded s m) ≡ Fine
   unfolding noteCallRefusal

@@ -13,7 +13,7 @@ use Rattle.laws.specs.Listed.{listed}
 use Rattle.laws.proofs.Listed.{from-map, listed-same}
 use Rattle.rng.specs.SplitMix64.{stateAfter}
 use Rattle.dsl.specs.Note.{noteOf, ofWords}
-use Rattle.dsl.specs.Pitch.{pitchAt, passes}
+use Rattle.dsl.specs.Pitch.{reading, pitchAt, passes}
 use Rattle.dsl.specs.Sized.{allSized, pitchSized}
 use Rattle.dsl.specs.declared.pitch.Pitch.{Pitch}
 use Rattle.dsl.specs.declared.wave.SeqWave.{SeqWave}
@@ -28,8 +28,8 @@ use Rattle.groove.specs.Mapped.{endStep, humanDelay64, mappedOf}
 use Rattle.tempo.specs.Map.{points}
 use Rattle.counts.specs.Draws.{drawsOf}
 use Rattle.outcome.specs.Answer.{accepted, unless, reported}
-use Rattle.outcome.specs.First.{Test, _⇒_, firstOf, orElse, firstRefusal}
-use Rattle.outcome.specs.declared.answer.Refusal.the-variants.{Kind, Steps, Size, Reach, Tone, Words, Lane, NoteBuffer, StringBuffer, Draws}
+use Rattle.outcome.specs.First.{Test, _⇒_, firstOf, orElse, firstRefusal, outside}
+use Rattle.outcome.specs.declared.answer.Refusal.the-variants.{Kind, Steps, Size, Reach, Tone, Hop, Words, Lane, NoteBuffer, StringBuffer, Draws}
 use Rattle.outcome.specs.declared.answer.Verdict.{Verdict}
 use Rattle.outcome.specs.declared.answer.Verdict.the-variants.{Fine, Refuse}
 use Rattle.outcome.proofs.First.{first-append}
@@ -120,7 +120,7 @@ bareTests s m =
     (ltb 1048575 (m .step) ⇒ Steps)
     ∷ (ltb 1048575 (m .len) ⇒ Steps)
     ∷ (not (pitchSized (m .pitch)) ⇒ Size)
-    ∷ (passes (m .pitch) (length (s .lane)) (place s m .len) ⇒ Reach)
+    ∷ (passes (m .pitch) (s .seq .hop) (length (s .lane)) (place s m .len) ⇒ Reach)
     ∷ []
 
 abbrev bareUntuned : Untuned → List Test
@@ -138,7 +138,7 @@ bare-free : (s : Score) → Free (bareRefusal s)
 unfolding bareRefusal
 bare-free s = record {
   notes = λ step len p gain gain′. ap (λ (k : ℕ). firstOf ((ltb 1048575 step ⇒ Steps) ∷ (ltb 1048575 len ⇒ Steps) ∷ (not (pitchSized p) ⇒ Size)
-      ∷ (passes p (length (s .lane)) k ⇒ Reach) ∷ [])) (len-by (s .seq .timing) (s .n) step len p gain gain′);
+      ∷ (passes p (s .seq .hop) (length (s .lane)) k ⇒ Reach) ∷ [])) (len-by (s .seq .timing) (s .n) step len p gain gain′);
   others = λ step len gain gain′. refl;
 }
 
@@ -162,14 +162,14 @@ module _ (s s′ : Score) (r : Reset s s′) where
       (λ e none. none .other 0 (λ m. place s m .sounded) ∙ sym (none .other 0 (λ m. place s′ m .sounded)))
 
   first-same : (e : Decoded) → firstIn s e ≡ firstIn s′ e
-  first-same = by-kind (λ e. firstIn s e ≡ firstIn s′ e) (λ m j. pitchAt (m .pitch) (r .lane j) 0)
+  first-same = by-kind (λ e. firstIn s e ≡ firstIn s′ e) (λ m j. pitchAt (reading (m .pitch) (r .hop j)) (r .lane j) 0)
       (λ e none. none .other _ (λ m. pitch s m 0) ∙ sym (none .other _ (λ m. pitch s′ m 0)))
 
   bare-same : (e : Decoded) → bareRefusal s e ≡ bareRefusal s′ e
   unfolding bareRefusal
   bare-same = by-words (λ e. bareRefusal s e ≡ bareRefusal s′ e)
       (λ m j. firstOf ((ltb 1048575 (m .step) ⇒ Steps) ∷ (ltb 1048575 (m .len) ⇒ Steps) ∷ (not (pitchSized (m .pitch)) ⇒ Size)
-      ∷ (passes (m .pitch) (length (r .lane j)) (placeOf (r .timing j) (r .frames j) m .len) ⇒ Reach) ∷ []))
+      ∷ (passes (m .pitch) (r .hop j) (length (r .lane j)) (placeOf (r .timing j) (r .frames j) m .len) ⇒ Reach) ∷ []))
       (λ u. refl) refl
 
   count-same : noteCount s ≡ noteCount s′
@@ -209,7 +209,7 @@ module _ (s s′ : Score) (r : Reset s s′) where
       let middle : orElse (firstOf (numberTests (s .seq .timing) (s .n))) (orElse (firstOf (voiceTests (s .seq))) (firstOf (lentTests s ++ listTests s)))
       ≡ orElse (firstOf (numberTests (s′ .seq .timing) (s′ .n))) (orElse (firstOf (voiceTests (s′ .seq))) (firstOf (lentTests s′ ++ listTests s′)))
       = λ j. orElse (firstOf (numberTests (r .timing j) (r .frames j))) (orElse (voices j)
-      (firstOf ((ltb (r .room j) (r .frames j) ⇒ NoteBuffer) ∷ (ltb (r .string j) 9600 ⇒ StringBuffer) ∷ (not (eqb (r .words j % 5) 0) ⇒ Words) ∷ (not (allSized (r .lane j)) ⇒ Lane) ∷ []))) in
+      (firstOf ((ltb (r .room j) (r .frames j) ⇒ NoteBuffer) ∷ (ltb (r .string j) 9600 ⇒ StringBuffer) ∷ (outside (r .hop j) 1 4096 ⇒ Hop) ∷ (not (eqb (r .words j % 5) 0) ⇒ Words) ∷ (not (allSized (r .lane j)) ⇒ Lane) ∷ []))) in
       parts s ∙ middle ∙ sym (parts s′)
 
   -- THE THEOREM: the same refusal, or none in both

@@ -49,6 +49,7 @@ pub record Sized (s : Score) : Type 0 where
 pub record Reset (s s′ : Score) : Type 0 where
   pub wave : waveIn s ≡ waveIn s′
   pub timing : s .seq .timing ≡ s′ .seq .timing
+  pub hop : s .seq .hop ≡ s′ .seq .hop
   pub lane : s .lane ≡ s′ .lane
   pub frames : s .n ≡ s′ .n
   pub room : s .room ≡ s′ .room

@@ -24,11 +24,12 @@ pub record Text : Type 0 where
   pub draw : ℕ
   pub notes : List ℕ
 
--- what the score call is handed. A text score has no tempo map.
+-- what the score call is handed. A text score has no tempo map, and its hop is 1.
 abbrev pub seqOf : Numbers → Adsr → Sound → Seq
 seqOf a env v =
     record {
       timing = record { rate = a .rate; tempo = a .tempo; «steps_per_beat» = a .«steps_per_beat»; «tempo_map» = noMap; swing = a .swing; humanize = a .humanize };
+      hop = 1;
       voice = v .voice;
       duty = v .duty;
       env = env;

@@ -29,7 +29,7 @@ pub struct TextScore {
 }
 
 impl TextScore {
-    // The score call's numbers and voice. A text score has no tempo map.
+    // The score call's numbers and voice. A text score has no tempo map and no curve; its hop is 1.
     pub fn seq(self) -> Seq
         ensures { λ r. ⌜ r ≡ seqOf (self .numbers) (self .env) (self .sound) ⌝ }
     {
@@ -47,6 +47,7 @@ impl TextScore {
         };
         Seq {
             timing,
+            hop: 1,
             voice,
             duty: sound.duty,
             env,

@@ -8,7 +8,7 @@ ghost use Rattle.dsl.specs.Pitch.{pitchAt, reaches};
 ghost use Rattle.rng.specs.SplitMix64.{stateAfter};
 ghost use Rattle.counts.specs.Draws.{drawsOf};
 ghost use Rattle.voice.specs.Voice.{noteFrames};
-use dsl::Pitch;
+use dsl::Reading;
 use dsl::SeqVoice;
 use dsl::SeqWave;
 use rng::Rng;
@@ -20,9 +20,9 @@ pub fn voice_note(
     rate: u32,
     voice: SeqVoice,
     gain: f32,
-    pitch: Pitch,
+    pitch: Reading,
     lane: &[f32],
-    duty: Pitch,
+    duty: Reading,
     duties: &[f32],
     out: &mut [f32],
     string: &mut [f32],

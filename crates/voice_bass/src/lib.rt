@@ -7,7 +7,7 @@ ghost use Rattle.dsl.specs.Domain.{Frames};
 ghost use Rattle.dsl.specs.Pitch.{pitchAt, reaches};
 ghost use Rattle.voice_bass.specs.Bass.{cutoffAt, driveOf, bassAt, bassFrames};
 use dsl::BassKnobs;
-use dsl::Pitch;
+use dsl::Reading;
 
 // The phases of the saw and of the sub, and the filter's memory.
 struct BassState {
@@ -59,7 +59,14 @@ fn bass_at(fi: f32, bass: BassKnobs, gain: f32, srf: f32, i: usize, s: BassState
     }
 }
 
-pub fn bass_note(pitch: Pitch, lane: &[f32], bass: BassKnobs, gain: f32, srf: f32, out: &mut [f32])
+pub fn bass_note(
+    pitch: Reading,
+    lane: &[f32],
+    bass: BassKnobs,
+    gain: f32,
+    srf: f32,
+    out: &mut [f32],
+)
     requires { ⌜ reaches pitch (length (now lane)) (length (now out)) ⌝ }
     requires { ⌜ Frames (length (now out)) ⌝ }
     ensures { λ _. ⌜ now (out .exit) ≡ bassFrames (pitchAt pitch (now (lane .entry))) bass gain srf (length (now (out .entry))) ⌝ }

@@ -5,7 +5,7 @@ ghost use lib.ListN.{length};
 ghost use Rattle.dsl.specs.Domain.{Frames};
 ghost use Rattle.dsl.specs.Pitch.{pitchAt, reaches};
 ghost use Rattle.voice_bell.specs.Bell.{bellPartial, bellSum, bellNext, bellAt, bellFrames};
-use dsl::Pitch;
+use dsl::Reading;
 
 // The phases of the five partials and of the twin.
 struct BellState {
@@ -68,7 +68,7 @@ fn bell_at(fi: f32, srf: f32, i: usize, s: BellState) -> BellOut
     BellOut { sample, state }
 }
 
-pub fn bell_note(pitch: Pitch, lane: &[f32], srf: f32, out: &mut [f32])
+pub fn bell_note(pitch: Reading, lane: &[f32], srf: f32, out: &mut [f32])
     requires { ⌜ reaches pitch (length (now lane)) (length (now out)) ⌝ }
     requires { ⌜ Frames (length (now out)) ⌝ }
     ensures { λ _. ⌜ now (out .exit) ≡ bellFrames (pitchAt pitch (now (lane .entry))) srf (length (now (out .entry))) ⌝ }

@@ -5,7 +5,7 @@ ghost use lib.ListN.{length};
 ghost use Rattle.dsl.specs.Domain.{Frames};
 ghost use Rattle.dsl.specs.Pitch.{pitchAt, reaches};
 ghost use Rattle.voice_brass.specs.Brass.{brassAt, brassFrames};
-use dsl::Pitch;
+use dsl::Reading;
 
 // The phases of the saws, spread so that the onset is no click, and the filter's memory.
 struct BrassState {
@@ -39,7 +39,7 @@ fn brass_at(fi: f32, gain: f32, srf: f32, i: usize, s: BrassState) -> BrassOut
     }
 }
 
-pub fn brass_note(pitch: Pitch, lane: &[f32], gain: f32, srf: f32, out: &mut [f32])
+pub fn brass_note(pitch: Reading, lane: &[f32], gain: f32, srf: f32, out: &mut [f32])
     requires { ⌜ reaches pitch (length (now lane)) (length (now out)) ⌝ }
     requires { ⌜ Frames (length (now out)) ⌝ }
     ensures { λ _. ⌜ now (out .exit) ≡ brassFrames (pitchAt pitch (now (lane .entry))) gain srf (length (now (out .entry))) ⌝ }

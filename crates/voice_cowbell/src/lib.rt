@@ -5,7 +5,7 @@ ghost use lib.ListN.{length};
 ghost use Rattle.dsl.specs.Domain.{Frames};
 ghost use Rattle.dsl.specs.Pitch.{pitchAt, reaches};
 ghost use Rattle.voice_cowbell.specs.Cowbell.{cowbellOf, cowbellAt, cowbellFrames};
-use dsl::Pitch;
+use dsl::Reading;
 
 // One sample at the pitch f and the time t.
 pub fn cowbell_sample(f: f32, t: f32) -> f32
@@ -24,7 +24,7 @@ fn cowbell_at(fi: f32, srf: f32, i: usize) -> f32
     cowbell_sample(float::max_f32(fi, 20.0), t)
 }
 
-pub fn cowbell(pitch: Pitch, lane: &[f32], srf: f32, out: &mut [f32])
+pub fn cowbell(pitch: Reading, lane: &[f32], srf: f32, out: &mut [f32])
     requires { ⌜ reaches pitch (length (now lane)) (length (now out)) ⌝ }
     requires { ⌜ Frames (length (now out)) ⌝ }
     ensures { λ _. ⌜ now (out .exit) ≡ cowbellFrames (pitchAt pitch (now (lane .entry))) srf (length (now (out .entry))) ⌝ }

@@ -5,7 +5,7 @@ ghost use lib.ListN.{length};
 ghost use Rattle.dsl.specs.Domain.{Frames};
 ghost use Rattle.dsl.specs.Pitch.{pitchAt, reaches};
 ghost use Rattle.voice_epiano.specs.Epiano.{bentOf, epianoDecay, epianoAt, epianoFrames};
-use dsl::Pitch;
+use dsl::Reading;
 
 // The phases of the carrier, of the body's modulator and of the tine's.
 struct EpianoState {
@@ -53,7 +53,7 @@ fn epiano_at(fi: f32, gain: f32, srf: f32, decay: f32, i: usize, s: EpianoState)
 }
 
 // With no frame there is no first pitch to read.
-pub fn epiano_note(pitch: Pitch, lane: &[f32], gain: f32, srf: f32, out: &mut [f32])
+pub fn epiano_note(pitch: Reading, lane: &[f32], gain: f32, srf: f32, out: &mut [f32])
     requires { ⌜ reaches pitch (length (now lane)) (length (now out)) ⌝ }
     requires { ⌜ Frames (length (now out)) ⌝ }
     ensures { λ _. ⌜ now (out .exit) ≡ epianoFrames (pitchAt pitch (now (lane .entry))) gain srf (length (now (out .entry))) ⌝ }

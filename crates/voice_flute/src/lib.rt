@@ -7,7 +7,7 @@ ghost use Rattle.dsl.specs.Domain.{Frames};
 ghost use Rattle.dsl.specs.Pitch.{pitchAt, reaches};
 ghost use Rattle.rng.specs.SplitMix64.{stateAfter};
 ghost use Rattle.voice_flute.specs.Flute.{fluteAt, fluteFrames};
-use dsl::Pitch;
+use dsl::Reading;
 use rng::Rng;
 
 // The phases of the tone and of the vibrato, the breath filter's memory, and the generator.
@@ -49,7 +49,14 @@ fn flute_at(fi: f32, gain: f32, srf: f32, lp_a: f32, i: usize, s: FluteState) ->
 }
 
 // Hands back the generator after one draw a frame.
-pub fn flute_note(pitch: Pitch, lane: &[f32], gain: f32, srf: f32, rng: Rng, out: &mut [f32]) -> Rng
+pub fn flute_note(
+    pitch: Reading,
+    lane: &[f32],
+    gain: f32,
+    srf: f32,
+    rng: Rng,
+    out: &mut [f32],
+) -> Rng
     requires { ⌜ reaches pitch (length (now lane)) (length (now out)) ⌝ }
     requires { ⌜ Frames (length (now out)) ⌝ }
     ensures { λ _. ⌜ now (out .exit) ≡ fluteFrames (pitchAt pitch (now (lane .entry))) gain srf rng (length (now (out .entry))) ⌝ }

@@ -5,7 +5,7 @@ ghost use lib.ListN.{length};
 ghost use Rattle.dsl.specs.Domain.{Frames};
 ghost use Rattle.dsl.specs.Pitch.{pitchAt, reaches};
 ghost use Rattle.voice_mallet.specs.Mallet.{malletAt, malletFrames};
-use dsl::Pitch;
+use dsl::Reading;
 
 // The phases of the three partials.
 struct MalletState {
@@ -38,7 +38,7 @@ fn mallet_at(fi: f32, gain: f32, srf: f32, i: usize, s: MalletState) -> MalletOu
     }
 }
 
-pub fn mallet_note(pitch: Pitch, lane: &[f32], gain: f32, srf: f32, out: &mut [f32])
+pub fn mallet_note(pitch: Reading, lane: &[f32], gain: f32, srf: f32, out: &mut [f32])
     requires { ⌜ reaches pitch (length (now lane)) (length (now out)) ⌝ }
     requires { ⌜ Frames (length (now out)) ⌝ }
     ensures { λ _. ⌜ now (out .exit) ≡ malletFrames (pitchAt pitch (now (lane .entry))) gain srf (length (now (out .entry))) ⌝ }

@@ -6,7 +6,7 @@ ghost use lib.ListN.{length};
 ghost use Rattle.dsl.specs.Domain.{Frames};
 ghost use Rattle.dsl.specs.Pitch.{pitchAt, reaches};
 ghost use Rattle.voice_organ.specs.Organ.{organAt, organFrames};
-use dsl::Pitch;
+use dsl::Reading;
 
 // The state is the phase at half the pitch.
 struct OrganOut {
@@ -36,7 +36,7 @@ fn organ_at(fi: f32, srf: f32, i: usize, phase: f32) -> OrganOut
     }
 }
 
-pub fn organ_note(pitch: Pitch, lane: &[f32], srf: f32, out: &mut [f32])
+pub fn organ_note(pitch: Reading, lane: &[f32], srf: f32, out: &mut [f32])
     requires { ⌜ reaches pitch (length (now lane)) (length (now out)) ⌝ }
     requires { ⌜ Frames (length (now out)) ⌝ }
     ensures { λ _. ⌜ now (out .exit) ≡ organFrames (pitchAt pitch (now (lane .entry))) srf (length (now (out .entry))) ⌝ }

@@ -19,7 +19,7 @@ use crate::wires::amp_sum;
 use crate::wires::string_pair;
 use crate::wires::wires_at;
 use dsl::PianoKnobs;
-use dsl::Pitch;
+use dsl::Reading;
 use rng::DrawF32;
 use rng::Rng;
 
@@ -79,7 +79,7 @@ fn piano_at(
 
 // The frames of a note's partials. It draws while the hammer is heard, whatever the pitch.
 fn sound_piano(
-    pitch: Pitch,
+    pitch: Reading,
     lane: &[f32],
     srf: f32,
     count: usize,
@@ -118,7 +118,7 @@ fn loudness(items: [Partial; 18], count: usize) -> f32
 pub fn piano_note(
     knobs: PianoKnobs,
     gain: f32,
-    pitch: Pitch,
+    pitch: Reading,
     lane: &[f32],
     rate: u32,
     rng: Rng,

@@ -15,8 +15,8 @@ use crate::guitar::Echoes;
 use crate::guitar::Timbre;
 use crate::guitar::guitar_timbre;
 use crate::guitar::ring_all;
-use dsl::Pitch;
 use dsl::PluckKnobs;
+use dsl::Reading;
 use rng::Rng;
 
 // What the pick's highpass holds: its last input and output.
@@ -168,7 +168,7 @@ fn sound_string(
 // first 9,600 values are used. Hands back the generator after a draw for each value of the period.
 pub fn pluck_note(
     knobs: PluckKnobs,
-    pitch: Pitch,
+    pitch: Reading,
     lane: &[f32],
     rate: u32,
     rng: Rng,

@@ -5,7 +5,7 @@ ghost use lib.ListN.{length};
 ghost use Rattle.dsl.specs.Domain.{Frames};
 ghost use Rattle.dsl.specs.Pitch.{pitchAt, reaches};
 ghost use Rattle.voice_strings.specs.Strings.{stringsAt, stringsFrames};
-use dsl::Pitch;
+use dsl::Reading;
 
 // The phases of the saws and the filter's memory.
 struct StringsState {
@@ -41,7 +41,7 @@ fn strings_at(fi: f32, srf: f32, lp_a: f32, i: usize, s: StringsState) -> String
     }
 }
 
-pub fn strings_note(pitch: Pitch, lane: &[f32], srf: f32, out: &mut [f32])
+pub fn strings_note(pitch: Reading, lane: &[f32], srf: f32, out: &mut [f32])
     requires { ⌜ reaches pitch (length (now lane)) (length (now out)) ⌝ }
     requires { ⌜ Frames (length (now out)) ⌝ }
     ensures { λ _. ⌜ now (out .exit) ≡ stringsFrames (pitchAt pitch (now (lane .entry))) srf (length (now (out .entry))) ⌝ }

@@ -6,7 +6,7 @@ ghost use Rattle.dsl.specs.Domain.{Frames};
 ghost use Rattle.dsl.specs.Pitch.{pitchAt, reaches};
 ghost use Rattle.voice_waves.specs.Fm.{fmIndex, fmAt, fmFrames};
 use dsl::FmKnobs;
-use dsl::Pitch;
+use dsl::Reading;
 
 pub struct FmState {
     pub cph: f32,
@@ -44,7 +44,7 @@ fn fm_at(fi: f32, knobs: FmKnobs, gain: f32, srf: f32, i: usize, s: FmState) -> 
 }
 
 // The voice reads the note's own gain.
-pub fn fm(pitch: Pitch, lane: &[f32], knobs: FmKnobs, gain: f32, srf: f32, out: &mut [f32])
+pub fn fm(pitch: Reading, lane: &[f32], knobs: FmKnobs, gain: f32, srf: f32, out: &mut [f32])
     requires { ⌜ reaches pitch (length (now lane)) (length (now out)) ⌝ }
     requires { ⌜ Frames (length (now out)) ⌝ }
     ensures { λ _. ⌜ now (out .exit) ≡ fmFrames (pitchAt pitch (now (lane .entry))) knobs gain srf (length (now (out .entry))) ⌝ }

@@ -5,7 +5,7 @@ ghost use lib.ListN.{length};
 ghost use Rattle.dsl.specs.Domain.{Frames};
 ghost use Rattle.dsl.specs.Pitch.{pitchAt, reaches};
 ghost use Rattle.voice_waves.specs.Plain.{sawtoothAt, sawtoothFrames, sineAt, sineFrames};
-use dsl::Pitch;
+use dsl::Reading;
 use osc::Shape;
 
 // A frame of a voice whose state is one phase: its sample, and the phase before the next frame.
@@ -24,7 +24,7 @@ fn sawtooth_at(fi: f32, srf: f32, phase: f32) -> PhaseOut
     }
 }
 
-pub fn sawtooth(pitch: Pitch, lane: &[f32], srf: f32, out: &mut [f32])
+pub fn sawtooth(pitch: Reading, lane: &[f32], srf: f32, out: &mut [f32])
     requires { ⌜ reaches pitch (length (now lane)) (length (now out)) ⌝ }
     ensures { λ _. ⌜ now (out .exit) ≡ sawtoothFrames (pitchAt pitch (now (lane .entry))) srf (length (now (out .entry))) ⌝ }
 {
@@ -48,7 +48,7 @@ fn sine_at(fi: f32, srf: f32, phase: f32) -> PhaseOut
     }
 }
 
-pub fn sine(pitch: Pitch, lane: &[f32], srf: f32, out: &mut [f32])
+pub fn sine(pitch: Reading, lane: &[f32], srf: f32, out: &mut [f32])
     requires { ⌜ reaches pitch (length (now lane)) (length (now out)) ⌝ }
     ensures { λ _. ⌜ now (out .exit) ≡ sineFrames (pitchAt pitch (now (lane .entry))) srf (length (now (out .entry))) ⌝ }
 {

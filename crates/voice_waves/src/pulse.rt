@@ -8,7 +8,7 @@ ghost use Rattle.dsl.specs.Domain.{Frames};
 ghost use Rattle.dsl.specs.Pitch.{pitchAt, reaches};
 ghost use Rattle.voice_waves.specs.Pulse.{pulseLevel, pulseOf, squareAt, squareFrames, triangleAt, triangleFrames};
 use crate::plain::PhaseOut;
-use dsl::Pitch;
+use dsl::Reading;
 
 // 1 before the second jump, -1 after it.
 fn level(phase: f32, duty: f32) -> f32
@@ -46,7 +46,14 @@ fn square_at(fi: f32, di: f32, srf: f32, phase: f32) -> PhaseOut
 }
 
 // The duty is read at every frame.
-pub fn square(pitch: Pitch, lane: &[f32], duty: Pitch, duties: &[f32], srf: f32, out: &mut [f32])
+pub fn square(
+    pitch: Reading,
+    lane: &[f32],
+    duty: Reading,
+    duties: &[f32],
+    srf: f32,
+    out: &mut [f32],
+)
     requires { ⌜ reaches pitch (length (now lane)) (length (now out)) ⌝ }
     requires { ⌜ reaches duty (length (now duties)) (length (now out)) ⌝ }
     ensures { λ _. ⌜ now (out .exit) ≡ squareFrames (pitchAt pitch (now (lane .entry))) (pitchAt duty (now (duties .entry))) srf (length (now (out .entry))) ⌝ }
@@ -87,7 +94,7 @@ fn triangle_at(fi: f32, srf: f32, s: TriangleState) -> TriangleOut
 }
 
 // A square wave summed up, with a leak that keeps the sum about zero.
-pub fn triangle(pitch: Pitch, lane: &[f32], srf: f32, out: &mut [f32])
+pub fn triangle(pitch: Reading, lane: &[f32], srf: f32, out: &mut [f32])
     requires { ⌜ reaches pitch (length (now lane)) (length (now out)) ⌝ }
     ensures { λ _. ⌜ now (out .exit) ≡ triangleFrames (pitchAt pitch (now (lane .entry))) srf (length (now (out .entry))) ⌝ }
 {

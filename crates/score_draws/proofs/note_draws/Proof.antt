@@ -3,7 +3,7 @@ use mathlib.Core.Path.{sym, ap, _∙_}
 use borrow.Author.Tests.{lt-leb}
 use Rattle.dsl.proofs.Cases.{no-note-left}
 use Rattle.score.specs.Score.{Score, scoreOf, drawsIn, noteDraws}
-use Rattle.score.proofs.Accepted.{place-asks, first-reached}
+use Rattle.score.proofs.Accepted.{accepted-score, place-asks, first-reached}
 use Rattle.score.proofs.Notes.{skipped-draws, sounded-draws}
 use borrow.Author.Needs.{needs}
 use Rattle.score_draws.proofs.note_draws.Statement.{statement}
@@ -25,33 +25,23 @@ place-note-requires c κs =
 
 returns-2 : tie.Need-returns-2
 returns-2 c =
-    let b6 = c .before .before .before .before .before .before in
-    let b8 = c .before .before .before .before .before .before .before .before in
-    let b11 = c .before .before .before .before .before .before .before .before .before .before .before in
-    let is = sym (b8 .note-at .ensures) ∙ b6 .note .given .1 in
-    rw is (skipped-draws (score-in (b11)) _ (rw (c .before .before .before .place-note .ensures) at (c .if1 .taken)))
+    let is = sym (c .before .before .before .before .before .before .before .before .note-at .ensures) ∙ c .before .before .before .before .before .before .note .given .1 in
+    rw is (skipped-draws (score-in (c .before .before .before .before .before .before .before .before .before .before .before)) _ (rw (c .before .before .before .place-note .ensures) at (c .if1 .taken)))
+
+new-requires : tie.Need-new-requires
+new-requires c κs = let at = c .before .before .before .before .before .before .before .before .before .before .before in accepted-score (score-in at) (at .pre .0) .fit .hop-least
 
 at-requires : tie.Need-at-requires
 at-requires c κs =
-    let b7 = c .before .before .before .before .before .before .before in
-    let b9 = c .before .before .before .before .before .before .before .before .before in
-    let b12 = c .before .before .before .before .before .before .before .before .before .before .before .before in
-    let at = b12 in
-    first-reached (score-in at) (at .pre .0) _ (at .pre .1) _ (sym (b9 .note-at .ensures) ∙ b7 .note .given .1)
+    let at = c .before .before .before .before .before .before .before .before .before .before .before .before .before in
+    rw (c .before .new .ensures) (first-reached (score-in at) (at .pre .0) _ (at .pre .1) _ (sym (c .before .before .before .before .before .before .before .before .before .before .note-at .ensures) ∙ c .before .before .before .before .before .before .before .before .note .given .1))
 
 returns-3 : tie.Need-returns-3
 returns-3 c =
-    let b6 = c .before .before .before .before .before .before in
-    let b9 = c .before .before .before .before .before .before .before .before .before in
-    let b11 = c .before .before .before .before .before .before .before .before .before .before .before in
-    let b14 = c .before .before .before .before .before .before .before .before .before .before .before .before .before .before in
-    let is = sym (b11 .note-at .ensures) ∙ b9 .note .given .1 in
-    let heard = lt-leb _ _ (rw (b6 .place-note .ensures) at (c .before .before .before .if1 .left)) in
-    c .draw-count .ensures ∙ rw (
-      c .before .at .ensures,
-      b6 .place-note .ensures,
-      is,
-    ) (sounded-draws (score-in (b14)) _ heard)
+    let is = sym (c .before .before .before .before .before .before .before .before .before .before .before .before .note-at .ensures) ∙ c .before .before .before .before .before .before .before .before .before .before .note .given .1 in
+    let place = c .before .before .before .before .before .before .before .place-note .ensures in
+    let heard = lt-leb _ _ (rw place at (c .before .before .before .before .if1 .left)) in
+    c .draw-count .ensures ∙ rw (c .before .at .ensures, c .before .before .before .new .ensures, place, is) (sounded-draws (score-in (c .before .before .before .before .before .before .before .before .before .before .before .before .before .before .before)) _ heard)
 
 pub note-draws-spec : {M : Type 1} → statement M
 note-draws-spec =
@@ -62,6 +52,7 @@ note-draws-spec =
     returns
     place-note-requires
     returns-2
+    new-requires
     at-requires
     (λ c κs. tt)
     returns-3)

@@ -16,14 +16,13 @@ shared-slice-read-draw-count c = (accepted-note-facts _ (sym (sym (c .before .en
 
 voice-note-requires : tie.Need-voice-note-requires
 voice-note-requires c κs =
-    let b4 = c .before .before .before .before in
-    let b6 = c .before .before .before .before .before .before in
-    let b11 = c .before .before .before .before .before .before .before .before .before .before .before in
-    let f = accepted-note-facts _ (sym (sym (b4 .enum-told .given .1) ∙ b6 .note-call-verdict .ensures)) in
-    let a = b11 .args in
+    let f = accepted-note-facts _ (sym (sym (c .before .before .before .before .before .enum-told .given .1) ∙ c .before .before .before .before .before .before .before .note-call-verdict .ensures)) in
+    let a = c .before .before .before .before .before .before .before .before .before .before .before .before .args in
     let some = f .some in
     let frames = f .frames in
-    let duties = f .duties in (
+    let duties = f .duties in
+    let few = f .most .most in
+    let is = c .before .before .new .ensures in (
       f .rated,
       (
         omega arith,
@@ -32,8 +31,8 @@ voice-note-requires c κs =
           (
             f .stringed,
             (
-              reaches-own (length (a .pitch .now)) (length (a .out .now)) (omega arith),
-              reaches-own (length (a .duty .now)) (length (a .out .now)) (omega arith),
+              rw is (reaches-own (length (a .pitch .now)) (length (a .out .now)) (omega arith) (omega arith) few),
+              rw is (reaches-own (length (a .duty .now)) (length (a .out .now)) (omega arith) (omega arith) few),
             ),
           ),
         ),
@@ -42,13 +41,10 @@ voice-note-requires c κs =
 
 returns-2 : tie.Need-returns-2
 returns-2 c =
-    let b4 = c .before .before .before .before in
-    let b7 = c .before .before .before .before .before .before .before in
-    let b9 = c .before .before .before .before .before .before .before .before .before in
-    let b11 = c .before .before .before .before .before .before .before .before .before .before .before in
-    let voice = b4 .voice-note in
-    let fine = sym (b9 .enum-told .given .1) ∙ b11 .note-call-verdict .ensures in
-    accepted-note _ fine (voice .result) (b7 .draw-count .result) (b7 .draw-count .ensures) (voice .ensures .0) refl (voice .ensures .1 .0) (voice .ensures .1 .1)
+    let voice = c .before .before .before .before .voice-note in
+    let is = c .before .before .before .before .before .before .before .new .ensures in
+    let fine = sym (c .before .before .before .before .before .before .before .before .before .before .enum-told .given .1) ∙ c .before .before .before .before .before .before .before .before .before .before .before .before .note-call-verdict .ensures in
+    accepted-note _ fine (voice .result) (c .before .before .before .before .before .before .before .before .draw-count .result) (c .before .before .before .before .before .before .before .before .draw-count .ensures) (rw is at (voice .ensures .0)) refl (rw is at (voice .ensures .1 .0)) (voice .ensures .1 .1)
 
 pub seq-note-signal-spec : {M : Type 1} → statement M
 seq-note-signal-spec =
@@ -61,6 +57,7 @@ seq-note-signal-spec =
     (λ c. search needs)
     shared-slice-read-draw-count
     (λ c κs. tt)
+    (λ c κs. omega arith)
     voice-note-requires
     (λ c. search needs)
     (λ c. search needs)

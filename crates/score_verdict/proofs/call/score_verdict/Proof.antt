@@ -1,7 +1,7 @@
 -- `score_verdict::call::score_verdict` meets its contract. Assumes nothing.
 use mathlib.Core.Path.{sym, _∙_}
 use Rattle.score.specs.Score.{Score, scoreOf}
-use Rattle.score_verdict.proofs.Verdicts.{call-refuses, call-frames, notes-decide}
+use Rattle.score_verdict.proofs.Verdicts.{call-refuses, call-frames, call-hop, notes-decide}
 use borrow.Author.Needs.{needs}
 use Rattle.score_verdict.proofs.call.score_verdict.Statement.{statement}
 use Rattle.score_verdict.proofs.call.score_verdict.Tie as tie
@@ -17,7 +17,9 @@ returns c =
 notes-verdict-requires : tie.Need-notes-verdict-requires
 notes-verdict-requires c κs =
     let found = rw (c .before .before .before .numbers-verdict .ensures) at (c .before .before .lists-verdict .ensures) in
-    call-frames (score-in (c .before .before .before .before .before .before)) (sym (c .enum-told .given .1) ∙ found)
+    let s = score-in (c .before .before .before .before .before .before) in
+    let fine = sym (c .enum-told .given .1) ∙ found in
+    (call-frames s fine, call-hop s fine)
 
 returns-2 : tie.Need-returns-2
 returns-2 c =
