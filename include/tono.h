@@ -49,6 +49,7 @@ enum tono_refusal {
     TONO_REFUSED_TONE = 30,
     TONO_REFUSED_TEMPO_POINTS = 31,
     TONO_REFUSED_TEMPO_ORDER = 32,
+    TONO_REFUSED_STATION = 33,
     TONO_REFUSED_HOP = 35,
     TONO_REFUSED_SAMPLE_FORMAT = 36,
     TONO_REFUSED_STRUCTURE = 37
@@ -81,6 +82,7 @@ static inline const char *tono_reason(int number)
     case TONO_REFUSED_TONE: return "a quarter tone's number is above 255";
     case TONO_REFUSED_TEMPO_POINTS: return "there are more than 64 tempo points, or one has a zero denominator, a numerator beyond 1,000,000,000 or a tempo not from 1 to 1,000";
     case TONO_REFUSED_TEMPO_ORDER: return "the first tempo point is not at beat 0, or a point's beat is not after the one before it";
+    case TONO_REFUSED_STATION: return "the station is above 7";
     case TONO_REFUSED_HOP: return "the hop is not from 1 to 4,096";
     case TONO_REFUSED_SAMPLE_FORMAT: return "the file's tag, channel count or sample width is not 3, 1 and 32";
     case TONO_REFUSED_STRUCTURE: return "the file's chunks are not those of a WAVE file of this form";

@@ -3,7 +3,7 @@
 use crate::engine::Count;
 use crate::{
     boards, helpers, hop_calls, kernels, mapped_calls, note_calls, progress, random, score_calls,
-    texts, tones, voices, wave_files,
+    station_calls, texts, tones, voices, wave_files,
 };
 use std::process::{Command, Stdio};
 
@@ -14,7 +14,7 @@ const TEXTS: u64 = 1_000_000;
 /// One row of the table: what is compared, with what, and the run of one case in a number.
 type Part = (&'static str, &'static str, fn(u64) -> Count);
 
-const PARTS: [Part; 13] = [
+const PARTS: [Part; 14] = [
     ("float helpers", "Rust's operations", helpers::run),
     ("kernels", "det.rs and the request's words", |scale| {
         kernels::run_all(kernels::COUNT.div_ceil(scale), scale)
@@ -38,6 +38,11 @@ const PARTS: [Part; 13] = [
         "score calls at hops in lists",
         "01's tally, curves widened",
         |scale| hop_calls::run(hop_calls::COUNT.div_ceil(scale)),
+    ),
+    (
+        "score calls over stations in lists",
+        "01's tally of each station",
+        |scale| station_calls::run(station_calls::COUNT.div_ceil(scale)),
     ),
     ("text scores", "01's text call", |scale| {
         texts::run(texts::COUNT.div_ceil(scale))

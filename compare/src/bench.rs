@@ -105,9 +105,10 @@ impl Bench {
 
     pub fn our_score(&mut self, wave: u32, words: &[u32]) -> u32 {
         h_score(ScoreArgs {
-            state: &mut 1,
-            draw: &mut 0,
+            seeds: &mut [1; 8],
+            counts: &mut [0; 8],
             draws: &mut 0,
+            station: 0,
             rate: RATE,
             tempo: self.tempo,
             steps_per_beat: self.steps_per_beat,

@@ -3,7 +3,7 @@
 
 use crate::engine::{same_values, Count};
 use crate::harness::{h_score, ScoreArgs};
-use crate::reference::{self, ScoreCall, Tally};
+use crate::reference::{self, ScoreCall, Session};
 use crate::score::Score;
 use crate::score_cases::{curve, usual};
 
@@ -37,9 +37,10 @@ fn score((offset, hop, frames): (u32, u32, usize), wave: u32) -> Score {
 fn ours(score: &Score, lane: &[f32]) -> (u32, Vec<f32>) {
     let mut out = vec![1.0; score.out];
     let number = h_score(ScoreArgs {
-        state: &mut 1,
-        draw: &mut 0,
+        seeds: &mut [1, 0, 0, 0, 0, 0, 0, 0],
+        counts: &mut [0; 8],
         draws: &mut 0,
+        station: score.station,
         rate: score.rate,
         tempo: score.tempo,
         steps_per_beat: score.steps_per_beat,
@@ -70,8 +71,8 @@ pub fn run() -> Count {
     for (case, wave) in CURVES.iter().flat_map(|&case| [(case, 2), (case, 6)]) {
         let score = score(case, wave);
         let (number, frames) = ours(&score, &lane);
-        let mut tally = Tally { seed: 1, draw: 0 };
-        let called = tally.score_call(&ScoreCall {
+        let mut session = Session::open(1, 0);
+        let called = session.score_call(&ScoreCall {
             lane: &lane,
             ..score.call()
         });

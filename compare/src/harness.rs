@@ -81,9 +81,12 @@ mod raw {
             string_len: usize,
         ) -> u32;
         pub fn h_score(
-            state: *mut u64,
-            draw: *mut u64,
+            seeds: *mut u64,
+            seeds_len: usize,
+            counts: *mut u64,
+            counts_len: usize,
             draws: *mut u64,
+            station: u32,
             rate: u32,
             tempo: f32,
             steps_per_beat: u32,
@@ -152,9 +155,10 @@ pub fn h_note(args: NoteArgs) -> u32 {
 
 /// What a score call takes: the session, numbers, values to read, and what it is lent.
 pub struct ScoreArgs<'a> {
-    pub state: &'a mut u64,
-    pub draw: &'a mut u64,
+    pub seeds: &'a mut [u64],
+    pub counts: &'a mut [u64],
     pub draws: &'a mut u64,
+    pub station: u32,
     pub rate: u32,
     pub tempo: f32,
     pub steps_per_beat: u32,
@@ -178,9 +182,12 @@ pub fn h_score(args: ScoreArgs) -> u32 {
     // As above.
     unsafe {
         raw::h_score(
-            args.state,
-            args.draw,
+            args.seeds.as_mut_ptr(),
+            args.seeds.len(),
+            args.counts.as_mut_ptr(),
+            args.counts.len(),
             args.draws,
+            args.station,
             args.rate,
             args.tempo,
             args.steps_per_beat,

@@ -5,7 +5,7 @@ use crate::engine::Count;
 use crate::long_scores::{long_hopped, longest_hopped};
 use crate::reference::NO_CALL;
 use crate::score::Score;
-use crate::score_calls::{mark_kinds, run_lists, Lists};
+use crate::score_calls::{mark_kinds, on_station_0, run_lists, Lists, Played, CALLS};
 use crate::tried::Tried;
 use crate::waves::WAVES;
 
@@ -15,11 +15,12 @@ pub const COUNT: u64 = 1_500_000;
 /// Of the long scores.
 const HOPS: [u32; 6] = [1, 2, 3, 64, 4095, 4096];
 
-fn mark(score: &Score, number: u32, tried: &mut Tried) {
+fn mark(played: &Played, tried: &mut Tried) {
+    let (score, number) = (played.score, played.number);
     if number == NO_CALL {
         return;
     }
-    mark_kinds(score, number, tried);
+    mark_kinds(played, tried);
     if !score.is_outside() {
         tried.mark("made at a hop from 1 to 4,096");
     }
@@ -50,7 +51,9 @@ fn long_ones() -> Vec<(String, Vec<Score>)> {
 
 const HOPPED: Lists = Lists {
     what: "score calls at hops",
+    most: CALLS,
     random: Score::hopped,
+    session: on_station_0,
     long: long_ones,
     mark,
 };

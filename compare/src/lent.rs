@@ -118,3 +118,22 @@ impl LentNumber {
         self.0 == [BESIDE, n, BESIDE]
     }
 }
+
+/// Numbers that are lent as a slice.
+pub struct LentNumbers(Vec<u64>);
+
+impl LentNumbers {
+    pub fn of(numbers: &[u64]) -> LentNumbers {
+        let beside = [BESIDE; MARGIN];
+        LentNumbers([&beside, numbers, &beside].concat())
+    }
+
+    pub fn part_mut(&mut self) -> &mut [u64] {
+        let end = self.0.len() - MARGIN;
+        &mut self.0[MARGIN..end]
+    }
+
+    pub fn hold(&self, numbers: &[u64]) -> bool {
+        self.0 == LentNumbers::of(numbers).0
+    }
+}

@@ -1,5 +1,6 @@
 //! Scores that are longer than the random ones.
 
+use crate::reference::STATIONS;
 use crate::score::Score;
 use crate::score_cases::{curve, note};
 use crate::tempo_points::{words_of, Point};
@@ -16,6 +17,9 @@ pub fn longest() -> [Score; 2] {
     let all = note(0, 1_048_575, 0.0, 1.0);
     let last = note(93_206, 1, 0.0, 1.0);
     [vec![], [all, last].concat()].map(|words| Score {
+        seeds: STATIONS,
+        counts: STATIONS,
+        station: 0,
         rate: 192_000,
         tempo: 1000.0,
         steps_per_beat: 64,
@@ -41,6 +45,9 @@ pub fn long(wave: u32) -> Score {
     let glide = curve(1, 100, 5, 0.5);
     let last = note(174, 4, 1500.0, 1.0);
     Score {
+        seeds: STATIONS,
+        counts: STATIONS,
+        station: 0,
         rate: 48_000,
         tempo: 120.0,
         steps_per_beat: 4,

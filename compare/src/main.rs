@@ -48,6 +48,8 @@ mod score_cases;
 mod score_kinds;
 mod score_random;
 mod score_vectors;
+mod station_calls;
+mod station_cases;
 mod stream;
 mod tempo_points;
 mod text;
@@ -94,6 +96,7 @@ const USAGE: &str =
        compare scores [COUNT [SEED]]  COUNT score calls in lists, 10^6 by default; a SEED for other calls
        compare mapped-scores [COUNT [SEED]]  COUNT score calls with tempo maps in lists, 1.25 x 10^6 by default
        compare hops [COUNT [SEED]]  COUNT score calls at hops in lists, 1.5 x 10^6 by default
+       compare stations [COUNT [SEED]]  COUNT score calls over stations in lists, 1.25 x 10^6 by default
        compare far-lane          curves about place 2^32 of a lane of 16 GiB, most of which are not in memory; minutes
        compare texts [COUNT]     COUNT text scores and damaged ones, 10^6 by default
        compare boards [COUNT]    COUNT operations on a board in lists, 10^7 by default
@@ -144,6 +147,9 @@ fn main() -> ExitCode {
         ["hops"] => status(hop_calls::run(hop_calls::COUNT)),
         ["hops", count] => counted(count, hop_calls::run),
         ["hops", count, seed] => counted_from(count, seed, hop_calls::run),
+        ["stations"] => status(station_calls::run(station_calls::COUNT)),
+        ["stations", count] => counted(count, station_calls::run),
+        ["stations", count, seed] => counted_from(count, seed, station_calls::run),
         ["far-lane"] => status(far_lane::run()),
         ["texts"] => status(texts::run(texts::COUNT)),
         ["texts", count] => counted(count, texts::run),

@@ -4,15 +4,16 @@ use crate::engine::Count;
 use crate::long_scores::{long_mapped, longest_mapped};
 use crate::reference::NO_CALL;
 use crate::score::Score;
-use crate::score_calls::{mark_kinds, run_lists, Lists};
+use crate::score_calls::{mark_kinds, on_station_0, run_lists, Lists, Played, CALLS};
 use crate::tried::Tried;
 use crate::waves::WAVES;
 
 /// How many calls are tried where no number is given: of six in seven a call is made with points.
 pub const COUNT: u64 = 1_250_000;
 
-fn mark(score: &Score, number: u32, tried: &mut Tried) {
-    mark_kinds(score, number, tried);
+fn mark(played: &Played, tried: &mut Tried) {
+    let (score, number) = (played.score, played.number);
+    mark_kinds(played, tried);
     if number != NO_CALL && !score.points.is_empty() {
         tried.mark("made with points");
     }
@@ -40,7 +41,9 @@ fn long_ones() -> Vec<(String, Vec<Score>)> {
 
 const MAPPED: Lists = Lists {
     what: "mapped score calls",
+    most: CALLS,
     random: Score::mapped,
+    session: on_station_0,
     long: long_ones,
     mark,
 };

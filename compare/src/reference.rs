@@ -1,4 +1,4 @@
-//! What document 01, and 02 of tempo maps and of hops, ask of a note call and of a list of score calls, with
+//! What document 01, and 02 of tempo maps, of hops and of stations, ask of a note call and of a list of score calls, with
 //! the original's voices, groove and mix for the sound. Nothing here comes from the library. Words in quotes
 //! are theirs.
 
@@ -18,8 +18,10 @@ const MOST_FRAMES: usize = 16_777_216;
 const STRING: usize = 9600;
 /// "a hop h from 1 to 4,096"
 const MOST_HOP: u32 = 4096;
-/// C's answer where no call is made: there are not 22 knobs, or not 5 numbers of an envelope, or not
-/// four words for each tempo point, or the wave is not one of the 17.
+/// "eight headphone stations"
+pub const STATIONS: usize = 8;
+/// C's answer where no call is made: there are not 8 seeds and 8 counts, or not 22 knobs, or not 5 numbers of
+/// an envelope, or not four words for each tempo point, or the wave is not one of the 17.
 pub const NO_CALL: u32 = u32::MAX;
 
 /// What a call comes to. "A refusal returns its number and 0 draws and changes nothing."
@@ -158,9 +160,12 @@ fn string_period(rate: u32, first_pitch: f32) -> u64 {
     (period as u64).max(2)
 }
 
-/// A score call: its numbers and values, and how long the output, the note buffer and the string
-/// buffer are.
+/// A score call: its numbers and values, how many seeds and counts there are, and how long the output, the
+/// note buffer and the string buffer are.
 pub struct ScoreCall<'a> {
+    pub seeds: usize,
+    pub counts: usize,
+    pub station: u32,
     pub rate: u32,
     pub tempo: f32,
     pub steps_per_beat: u32,
@@ -179,10 +184,18 @@ pub struct ScoreCall<'a> {
     pub string: usize,
 }
 
-/// "The tally holds s and a count d, at first c."
+/// "The tally holds s and a count d, at first c." Each station has one.
+#[derive(Clone, Copy, Default)]
 pub struct Tally {
     pub seed: u64,
     pub draw: u64,
+}
+
+/// A call that is accepted: its draws, the count after it, and its notes.
+struct Accepted {
+    draws: u64,
+    after: u64,
+    notes: Vec<SeqNote>,
 }
 
 impl Tally {
@@ -191,26 +204,80 @@ impl Tally {
         state_at(self.seed, self.draw)
     }
 
-    /// "Refused: the first refusal that applies gives the number. It reports 0 draws and d stays" ..
-    /// "Accepted: it reports D .. d + D, becomes the new d."
-    pub fn score_call(&mut self, call: &ScoreCall) -> Called {
-        let voice = score_voice(call)?;
-        let grid = Grid::of(call);
-        if let Some(number) = refusal(call, &grid) {
-            return Some(Outcome::Refused(number));
+    /// "Refused: the first refusal that applies gives the number."
+    fn judged(&self, call: &ScoreCall, wave: SeqWave, grid: &Grid) -> Result<Accepted, u32> {
+        if let Some(number) = refusal(call, grid) {
+            return Err(number);
         }
         let notes = call.words.chunks_exact(5);
-        let notes: Vec<SeqNote> = notes.map(|w| call.note(&grid, w)).collect();
+        let notes: Vec<SeqNote> = notes.map(|w| call.note(grid, w)).collect();
         // "22 applies exactly when none before it does and d + D passes 2^64 − 1"
-        let draws = notes.iter().map(|note| call.draws(voice.wave, &grid, note));
+        let draws = notes.iter().map(|note| call.draws(wave, grid, note));
         let draws: u128 = draws.sum();
-        let Ok(after) = u64::try_from(self.draw as u128 + draws) else {
-            return Some(Outcome::Refused(22));
+        let after = u64::try_from(self.draw as u128 + draws).map_err(|_| 22u32)?;
+        Ok(Accepted {
+            draws: draws as u64,
+            after,
+            notes,
+        })
+    }
+
+    /// The draws of a call that is accepted, else the refusal's number, with no sound made.
+    pub fn planned(&self, call: &ScoreCall) -> Option<Result<u64, u32>> {
+        let wave = score_voice(call)?.wave;
+        let judged = self.judged(call, wave, &Grid::of(call));
+        Some(judged.map(|accepted| accepted.draws))
+    }
+
+    /// "It reports 0 draws and d stays" .. "Accepted: it reports D .. d + D, becomes the new d."
+    fn score_call(&mut self, call: &ScoreCall, voice: &Voice) -> Outcome {
+        let grid = Grid::of(call);
+        let accepted = match self.judged(call, voice.wave, &grid) {
+            Err(number) => return Outcome::Refused(number),
+            Ok(accepted) => accepted,
         };
-        let draws = draws as u64;
-        let frames = score_frames(call, &voice, &grid.map, &notes, self.state(), draws);
-        self.draw = after;
-        Some(Outcome::Accepted { draws, frames })
+        let (draws, notes) = (accepted.draws, &accepted.notes);
+        let frames = score_frames(call, voice, &grid.map, notes, self.state(), draws);
+        self.draw = accepted.after;
+        Outcome::Accepted { draws, frames }
+    }
+}
+
+/// "The session becomes a record of eight seeds with eight counts, in place of one count for all."
+#[derive(Clone, Copy)]
+pub struct Session {
+    pub stations: [Tally; STATIONS],
+}
+
+impl Session {
+    /// Station 0 of this seed and count, the others of seed 0, before their first draw.
+    pub fn open(seed: u64, draw: u64) -> Session {
+        let mut stations = [Tally::default(); STATIONS];
+        stations[0] = Tally { seed, draw };
+        Session { stations }
+    }
+
+    pub fn seeds(&self) -> [u64; STATIONS] {
+        self.stations.map(|tally| tally.seed)
+    }
+
+    pub fn counts(&self) -> [u64; STATIONS] {
+        self.stations.map(|tally| tally.draw)
+    }
+
+    /// The tally that a call names.
+    pub fn named(&self, station: u32) -> Option<&Tally> {
+        self.stations.get(station as usize)
+    }
+
+    /// "A score call names its station, and 22 looks at that station's count." "It refuses a station above 7
+    /// with 33, before 1."
+    pub fn score_call(&mut self, call: &ScoreCall) -> Called {
+        let voice = score_voice(call)?;
+        Some(match self.stations.get_mut(call.station as usize) {
+            None => Outcome::Refused(33),
+            Some(tally) => tally.score_call(call, &voice),
+        })
     }
 }
 
@@ -276,7 +343,8 @@ pub fn place_read(w: &[u32], i: usize, hop: u32) -> u64 {
 fn score_voice(call: &ScoreCall) -> Option<Voice> {
     let knobs = call.knobs.try_into().ok()?;
     let env = <[f32; 5]>::try_from(call.env).ok()?;
-    let wave = wave_at(call.wave).filter(|_| call.points.len() % 4 == 0)?;
+    let counted = [call.seeds, call.counts] == [STATIONS; 2] && call.points.len() % 4 == 0;
+    let wave = wave_at(call.wave).filter(|_| counted)?;
     Some(Voice {
         duty: call.duty,
         swing: call.swing,

@@ -4,6 +4,10 @@ use crate::reference::ScoreCall;
 
 #[derive(Clone)]
 pub struct Score {
+    /// How many seeds and counts its session is handed as.
+    pub seeds: usize,
+    pub counts: usize,
+    pub station: u32,
     pub rate: u32,
     pub tempo: f32,
     pub steps_per_beat: u32,
@@ -27,6 +31,9 @@ pub struct Score {
 impl Score {
     pub fn call(&self) -> ScoreCall<'_> {
         ScoreCall {
+            seeds: self.seeds,
+            counts: self.counts,
+            station: self.station,
             rate: self.rate,
             tempo: self.tempo,
             steps_per_beat: self.steps_per_beat,

@@ -1,69 +1,70 @@
-//! Lists of score calls on one session, through `h_score` and by the tally.
+//! Lists of score calls on one session, through `h_score` and by the tallies of its stations.
 
 use crate::engine::{threads, Count};
 use crate::harness::{h_score, ScoreArgs};
-use crate::lent::{Lent, LentNumber};
+use crate::lent::{Lent, LentNumber, LentNumbers};
 use crate::long_scores::{long, longest};
 use crate::progress::Progress;
 use crate::random::Source;
-use crate::reference::{self, Tally};
+use crate::reference::{self, Session, Tally, STATIONS};
 use crate::score::Score;
 use crate::tried::{self, first_of, Tried};
 use crate::waves::WAVES;
 
 /// How many calls are tried where no number is given.
 pub const COUNT: u64 = 1_000_000;
+/// How many calls a list on one station has at most.
+pub const CALLS: u64 = 8;
 
-/// What a run of lists tries: how a call is made, the longer ones that stand beside, each list on a
-/// session of its own, and what is worth a line of a call with its number.
+/// What a run of lists tries: how many calls a list has at most, how a call is made and the session of a list,
+/// the longer calls that stand beside, each list on a session of its own, and what is worth a line of a call.
 pub struct Lists {
     pub what: &'static str,
+    pub most: u64,
     pub random: fn(&mut Source) -> Score,
+    pub session: fn(&[Score], &mut Source) -> Session,
     pub long: fn() -> Vec<(String, Vec<Score>)>,
-    pub mark: fn(&Score, u32, &mut Tried),
+    pub mark: fn(&Played, &mut Tried),
 }
 
-/// The session as the library holds it, beside the tally.
-struct Held {
-    tally: Tally,
-    state: LentNumber,
-    draw: LentNumber,
+/// A call that was made of both, and the session before it and after it.
+pub struct Played<'a> {
+    pub score: &'a Score,
+    pub number: u32,
+    pub before: &'a Session,
+    pub after: &'a Session,
 }
 
-impl Held {
-    fn open(seed: u64, draw: u64) -> Held {
-        let tally = Tally { seed, draw };
-        Held {
-            state: LentNumber::of(tally.state()),
-            draw: LentNumber::of(draw),
-            tally,
-        }
-    }
+/// The number that the tally gives, and what of the library's answer is another.
+fn play(session: &mut Session, score: &Score, draws_before: u64) -> (u32, Option<String>) {
+    let mut draws = LentNumber::of(draws_before);
+    let mut buffers = Buffers::of(score, session);
+    let number = buffers.play(score, &mut draws);
+    let called = session.score_call(&score.call());
+    let told = match called {
+        None => draws_before,
+        _ => reference::made(&called),
+    };
+    let differs = first_of(&[
+        ("number", number != reference::number(&called)),
+        ("draws", !draws.holds(told)),
+    ]);
+    let frames = reference::frames(&called);
+    let differs = differs.or_else(|| buffers.differ(score, session, frames));
+    (reference::number(&called), differs)
+}
 
-    /// The number that the tally gives, and what of the library's answer is another.
-    fn play(&mut self, score: &Score, before: u64) -> (u32, Option<String>) {
-        let mut draws = LentNumber::of(before);
-        let mut buffers = Buffers::of(score);
-        let number = buffers.play(score, self, &mut draws);
-        let called = self.tally.score_call(&score.call());
-        let told = match called {
-            None => before,
-            _ => reference::made(&called),
-        };
-        let differs = first_of(&[
-            ("number", number != reference::number(&called)),
-            ("draws", !draws.holds(told)),
-            ("state", !self.state.holds(self.tally.state())),
-            ("draw count", !self.draw.holds(self.tally.draw)),
-        ]);
-        let frames = reference::frames(&called);
-        let differs = differs.or_else(|| buffers.differ(score, frames));
-        (reference::number(&called), differs)
-    }
+/// As many of these as are lent; past the eighth there is nothing of a session.
+fn resized(numbers: [u64; STATIONS], len: usize) -> Vec<u64> {
+    let mut numbers = numbers.to_vec();
+    numbers.resize(len, 1);
+    numbers
 }
 
 /// What a call is lent.
 struct Buffers {
+    seeds: LentNumbers,
+    counts: LentNumbers,
     knobs: Lent<f32>,
     env: Lent<f32>,
     words: Lent<u32>,
@@ -75,8 +76,10 @@ struct Buffers {
 }
 
 impl Buffers {
-    fn of(score: &Score) -> Buffers {
+    fn of(score: &Score, session: &Session) -> Buffers {
         Buffers {
+            seeds: LentNumbers::of(&resized(session.seeds(), score.seeds)),
+            counts: LentNumbers::of(&resized(session.counts(), score.counts)),
             knobs: Lent::of(&score.knobs),
             env: Lent::of(&score.env),
             words: Lent::of(&score.words),
@@ -88,11 +91,12 @@ impl Buffers {
         }
     }
 
-    fn play(&mut self, score: &Score, held: &mut Held, draws: &mut LentNumber) -> u32 {
+    fn play(&mut self, score: &Score, draws: &mut LentNumber) -> u32 {
         h_score(ScoreArgs {
-            state: held.state.place(),
-            draw: held.draw.place(),
+            seeds: self.seeds.part_mut(),
+            counts: self.counts.part_mut(),
             draws: draws.place(),
+            station: score.station,
             rate: score.rate,
             tempo: score.tempo,
             steps_per_beat: score.steps_per_beat,
@@ -112,10 +116,15 @@ impl Buffers {
         })
     }
 
-    /// What of them is not as it should be; `frames` are those of an accepted call.
-    fn differ(&self, score: &Score, frames: Option<&[f32]>) -> Option<String> {
+    /// What of them is not as it should be after the call: `session` is the one of the tallies, `frames` are those
+    /// of an accepted call.
+    fn differ(&self, score: &Score, session: &Session, frames: Option<&[f32]>) -> Option<String> {
         let free = |m: usize| if frames.is_some() { m } else { 0 };
+        let seeds = resized(session.seeds(), score.seeds);
+        let counts = resized(session.counts(), score.counts);
         first_of(&[
+            ("seeds", !self.seeds.hold(&seeds)),
+            ("counts", !self.counts.hold(&counts)),
             ("output", !self.out.holds(frames)),
             ("note buffer", !self.note_buf.stays_but(free(score.out))),
             ("string", !self.string.stays_but(free(9600))),
@@ -128,13 +137,12 @@ impl Buffers {
     }
 }
 
-/// A count from which some call of the list ends at the last draw, or passes it.
-fn near_the_end(scores: &[Score], s: &mut Source) -> u64 {
-    let mut tally = Tally { seed: 0, draw: 0 };
-    for score in &scores[..1 + s.below(scores.len() as u64) as usize] {
-        tally.score_call(&score.call());
-    }
-    let last = u64::MAX - tally.draw;
+/// A count of a station from which some call of the list ends at the last draw, or passes it.
+fn near_the_end(scores: &[Score], station: u32, s: &mut Source) -> u64 {
+    let begun = &scores[..1 + s.below(scores.len() as u64) as usize];
+    let named = begun.iter().filter(|score| score.station == station);
+    let planned = named.filter_map(|score| Tally::default().planned(&score.call()));
+    let last = u64::MAX - planned.filter_map(Result::ok).sum::<u64>();
     s.pick(&[
         last,
         last,
@@ -144,19 +152,31 @@ fn near_the_end(scores: &[Score], s: &mut Source) -> u64 {
     ])
 }
 
+/// The count that a station is opened at.
+pub fn opened_at(scores: &[Score], station: u32, s: &mut Source) -> u64 {
+    match s.below(4) {
+        0 => 0,
+        1 => s.number(),
+        2 => u64::MAX - s.below(1000),
+        _ => near_the_end(scores, station, s),
+    }
+}
+
+/// A session of which only station 0 is used.
+pub fn on_station_0(scores: &[Score], s: &mut Source) -> Session {
+    let draw = opened_at(scores, 0, s);
+    Session::open(s.number(), draw)
+}
+
 /// The list of this number: its session and its calls, one after the other, up to the first fault.
 fn try_list(lists: &Lists, list: u64, calls: u64, tried: &mut Tried) {
     let mut s = Source::new(list);
     let scores: Vec<Score> = (0..calls).map(|_| (lists.random)(&mut s)).collect();
-    let draw = match s.below(4) {
-        0 => 0,
-        1 => s.number(),
-        2 => u64::MAX - s.below(1000),
-        _ => near_the_end(&scores, &mut s),
-    };
-    let mut held = Held::open(s.number(), draw);
+    let mut session = (lists.session)(&scores, &mut s);
+    let opened = session.counts();
     for (i, score) in scores.iter().enumerate() {
-        let (number, differs) = held.play(score, s.number());
+        let before = session;
+        let (number, differs) = play(&mut session, score, s.number());
         let faulty = differs.is_some();
         tried.add(
             number,
@@ -165,14 +185,26 @@ fn try_list(lists: &Lists, list: u64, calls: u64, tried: &mut Tried) {
         if faulty {
             return;
         }
-        if number == 0 && held.tally.draw == u64::MAX {
+        if number == 0 && session.counts()[score.station as usize] == u64::MAX {
             tried.mark("accepted and at draw 2^64 - 1 after it");
         }
-        (lists.mark)(score, number, tried);
+        let played = Played {
+            score,
+            number,
+            before: &before,
+            after: &session,
+        };
+        (lists.mark)(&played, tried);
+    }
+    let counts = session.counts();
+    let drew = counts.iter().zip(opened).filter(|(a, b)| **a != *b);
+    if drew.count() > 1 {
+        tried.mark("lists in which two stations or more drew");
     }
 }
 
-pub fn mark_kinds(score: &Score, number: u32, tried: &mut Tried) {
+pub fn mark_kinds(played: &Played, tried: &mut Tried) {
+    let (score, number) = (played.score, played.number);
     if number == 0 {
         for (kind, is) in score.kinds() {
             tried.mark_wave(score.wave, kind, is);
@@ -186,17 +218,17 @@ pub fn mark_kinds(score: &Score, number: u32, tried: &mut Tried) {
 
 /// These scores on one session.
 fn try_long(name: &str, scores: &[Score], tried: &mut Tried) {
-    let mut held = Held::open(1, 2);
+    let mut session = Session::open(1, 2);
     for score in scores {
-        let (number, differs) = held.play(score, 3);
+        let (number, differs) = play(&mut session, score, 3);
         tried.add(number, differs.map(|what| format!("{name}: {what}")));
     }
 }
 
-/// Lists of 1 to 8 calls in turn: 36 calls in each round of eight lists.
-fn calls_before(list: u64) -> u64 {
-    let (rounds, rest) = (list / 8, list % 8);
-    36 * rounds + rest * (rest + 1) / 2
+/// Lists of 1 to `most` calls in turn.
+fn calls_before(list: u64, most: u64) -> u64 {
+    let (rounds, rest) = (list / most, list % most);
+    rounds * most * (most + 1) / 2 + rest * (rest + 1) / 2
 }
 
 fn share(lists: &Lists, first: u64, count: u64, progress: &Progress) -> Tried {
@@ -206,11 +238,11 @@ fn share(lists: &Lists, first: u64, count: u64, progress: &Progress) -> Tried {
         try_long(name, scores, &mut tried);
     }
     for list in (first..).step_by(threads()) {
-        let before = calls_before(list);
+        let before = calls_before(list, lists.most);
         if before >= count {
             break;
         }
-        let calls = (1 + list % 8).min(count - before);
+        let calls = (1 + list % lists.most).min(count - before);
         try_list(lists, list, calls, &mut tried);
         progress.add(calls);
     }
@@ -233,7 +265,9 @@ fn long_ones() -> Vec<(String, Vec<Score>)> {
 
 const STRAIGHT: Lists = Lists {
     what: "score calls",
+    most: CALLS,
     random: Score::random,
+    session: on_station_0,
     long: long_ones,
     mark: mark_kinds,
 };

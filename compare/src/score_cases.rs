@@ -1,5 +1,6 @@
 //! The scores of crates/score_vectors: each limit of the domain on both sides, and a list of calls.
 
+use crate::reference::STATIONS;
 use crate::score::Score;
 use crate::tones::TONES;
 use crate::voice_vectors::USUAL;
@@ -36,6 +37,9 @@ pub fn tone(step: u32, len: u32, q: u32, gain: f32) -> [u32; 5] {
 /// 7.5 frames a step; a number that starts at once, and a curve of 15 frames, swung.
 pub fn usual() -> Score {
     Score {
+        seeds: STATIONS,
+        counts: STATIONS,
+        station: 0,
         rate: 8000,
         tempo: 1000.0,
         steps_per_beat: 64,

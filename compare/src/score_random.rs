@@ -2,6 +2,7 @@
 
 use crate::grid::Grid;
 use crate::random::Source;
+use crate::reference::STATIONS;
 use crate::score::Score;
 use crate::score_cases::note;
 use crate::tones::TONES;
@@ -53,6 +54,9 @@ impl Score {
         };
         let lane = s.pick(&[0, 1, 64, 600, 1600, 1600]);
         Score {
+            seeds: STATIONS,
+            counts: STATIONS,
+            station: 0,
             rate,
             tempo,
             steps_per_beat,

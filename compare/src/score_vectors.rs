@@ -1,11 +1,12 @@
-//! The replay files of crates/score_vectors. A line `open` gives a seed and a draw count, from which
-//! the session goes on; a line `score` is a call on it.
+//! The replay files of crates/score_vectors. A line `open` gives a seed and a draw count of each station, from
+//! which the session goes on; a line `score` is a call on it.
 
 use crate::hop_cases;
 use crate::mapped_cases;
-use crate::reference::{self, Tally};
+use crate::reference::{self, Session, Tally};
 use crate::score::Score;
 use crate::score_cases::{drawing, edges, list};
+use crate::station_cases::{self, planned_draws};
 use crate::voice_vectors::{hex, sample};
 use std::fmt::Write as _;
 use std::fs;
@@ -29,7 +30,7 @@ fn plain(words: &[u32]) -> String {
 
 fn line(score: &Score) -> String {
     format!(
-        "score {:x} {:08x} {:x} {:08x} {:08x} {:x} {:08x} {:x} {:x} {:x} {:x} {:x} {:x} {:x} {:x} {:x}{}{}{}{}{}",
+        "score {:x} {:08x} {:x} {:08x} {:08x} {:x} {:08x} {:x} {:x} {:x} {:x} {:x} {:x} {:x} {:x} {:x} {:x}{}{}{}{}{}",
         score.rate,
         score.tempo.to_bits(),
         score.steps_per_beat,
@@ -46,6 +47,7 @@ fn line(score: &Score) -> String {
         score.lane.len(),
         score.points.len(),
         score.hop,
+        score.station,
         hex(&score.knobs),
         hex(&score.env),
         plain(&score.words),
@@ -54,48 +56,68 @@ fn line(score: &Score) -> String {
     )
 }
 
+fn long(numbers: &[u64]) -> String {
+    numbers.iter().map(|n| format!(" {n:016x}")).collect()
+}
+
 impl Replay {
     fn put(&mut self, case: &str, answer: &str) {
         writeln!(self.stdin, "{case}").expect("a string takes any text");
         writeln!(self.stdout, "{case}{answer}").expect("a string takes any text");
     }
 
-    /// The answer is the generator's state.
-    fn open(&mut self, seed: u64, draw: u64) -> Tally {
-        let tally = Tally { seed, draw };
-        let answer = format!(" {:016x}", tally.state());
-        self.put(&format!("open {seed:016x} {draw:016x}"), &answer);
-        tally
+    /// The answer are the states of the eight generators.
+    fn open(&mut self, session: Session) -> Session {
+        let stations = session.stations.iter();
+        let opened: String = stations
+            .map(|t| format!(" {:x} {:x}", t.seed, t.draw))
+            .collect();
+        let states = session.stations.map(|tally| tally.state());
+        self.put(&format!("open{opened}"), &long(&states));
+        session
     }
 
-    /// The answer is the number, the draws, the session after the call, and the frames.
-    fn score(&mut self, tally: &mut Tally, score: &Score) {
-        let called = tally.score_call(&score.call());
+    /// The answer is the number, the draws, the state of the station's generator and the eight counts after the
+    /// call, and the frames.
+    fn score(&mut self, session: &mut Session, score: &Score) {
+        let called = session.score_call(&score.call());
         let draws = match called {
             None => DRAWS_BEFORE,
             _ => reference::made(&called),
         };
-        let (number, state) = (reference::number(&called), tally.state());
+        let tally = session.named(score.station).filter(|_| called.is_some());
+        let state = tally.map_or(0, Tally::state);
+        let number = reference::number(&called) as u64;
         let untouched = vec![FRAME_BEFORE; score.out];
         let frames = reference::frames(&called).unwrap_or(&untouched);
         let frames: String = frames.iter().copied().map(sample).collect();
-        let answer = format!(
-            " {number:016x} {draws:016x} {state:016x} {:016x}{frames}",
-            tally.draw
-        );
-        self.put(&line(score), &answer);
+        let (told, counts) = (long(&[number, draws, state]), long(&session.counts()));
+        self.put(&line(score), &format!("{told}{counts}{frames}"));
+    }
+
+    /// Each score on a session of its own, whose count at station 0 is `times` the score's place.
+    fn each(&mut self, scores: &[Score], times: u64) {
+        for (i, score) in scores.iter().enumerate() {
+            let mut session = self.open(Session::open(i as u64, times * i as u64));
+            self.score(&mut session, score);
+        }
+    }
+
+    /// The scores one after the other on this session.
+    fn list(&mut self, session: Session, scores: &[Score]) {
+        let mut session = self.open(session);
+        for score in scores {
+            self.score(&mut session, score);
+        }
     }
 
     /// A call that ends at the last draw, one that passes it by one draw, and calls after them.
     fn last_draws(&mut self) {
         let [noise, skipped, silent] = drawing();
-        let mut probe = Tally { seed: 0, draw: 0 };
-        probe.score_call(&noise.call());
+        let last = u64::MAX - planned_draws(&noise);
+        let scores = [noise.clone(), skipped, silent, noise];
         for over in [0, 1] {
-            let mut tally = self.open(0x1234_5678_9abc_def0, u64::MAX - probe.draw + over);
-            for score in [&noise, &skipped, &silent, &noise] {
-                self.score(&mut tally, score);
-            }
+            self.list(Session::open(0x1234_5678_9abc_def0, last + over), &scores);
         }
     }
 }
@@ -103,22 +125,17 @@ impl Replay {
 /// Writes both files.
 pub fn run() -> io::Result<()> {
     let mut replay = Replay::default();
-    for (i, score) in edges().iter().enumerate() {
-        let mut tally = replay.open(i as u64, 3 * i as u64);
-        replay.score(&mut tally, score);
-    }
+    replay.each(&edges(), 3);
     replay.last_draws();
-    let mut tally = replay.open(0xfeed_beef_0000_0001, 1000);
-    for score in list() {
-        replay.score(&mut tally, &score);
-    }
-    for (i, score) in mapped_cases::edges().iter().enumerate() {
-        let mut tally = replay.open(i as u64, 5 * i as u64);
-        replay.score(&mut tally, score);
-    }
-    let mut tally = replay.open(0xfeed_beef_0000_0002, 2000);
-    for score in mapped_cases::list() {
-        replay.score(&mut tally, &score);
+    replay.list(Session::open(0xfeed_beef_0000_0001, 1000), &list());
+    replay.each(&mapped_cases::edges(), 5);
+    let session = Session::open(0xfeed_beef_0000_0002, 2000);
+    replay.list(session, &mapped_cases::list());
+    replay.each(&hop_cases::edges(), 7);
+    let session = Session::open(0xfeed_beef_0000_0003, 3000);
+    replay.list(session, &hop_cases::list());
+    for (session, scores) in station_cases::lists() {
+        replay.list(session, &scores);
     }
     for (i, score) in hop_cases::edges().iter().enumerate() {
         let mut tally = replay.open(i as u64, 7 * i as u64);

@@ -1,6 +1,7 @@
 //! The text scores of crates/replay: each form broken in each way, each limit on both sides, two
 //! faults at once, the waves, and the last draws. A case has a name of one word.
 
+use crate::reference::STATIONS;
 use crate::score::Score;
 use crate::score_cases::note;
 use crate::text::{Kind, Text};
@@ -28,6 +29,9 @@ fn usual(wave: u32) -> Score {
         note(9, 1, 220.0, 1.0),
     ];
     Score {
+        seeds: STATIONS,
+        counts: STATIONS,
+        station: 0,
         rate: 8000,
         tempo: 1000.0,
         steps_per_beat: 64,

@@ -2,7 +2,7 @@
 //! text is split into lines and fields, as 01 gives its form; past 15 and 16 the answer is the tally's.
 //! Nothing here comes from the library. Words in quotes are 01's, or 02's where it is named.
 
-use crate::reference::{Outcome, Tally};
+use crate::reference::{Outcome, Session, STATIONS};
 use crate::score::Score;
 use crate::vectors::pattern;
 use crate::waves::{own_knobs, wave_at};
@@ -60,15 +60,13 @@ fn refused(number: u32, draw: u64) -> Listing {
 /// its G line opens"; "prints G with the end state and draw count, then one F line a frame, index and
 /// bits"; "A NaN frame is printed as 7fc00000."
 fn played(read: &TextScore) -> Listing {
-    let mut tally = Tally {
-        seed: read.seed,
-        draw: read.draw,
-    };
-    let frames = match tally.score_call(&read.score.call()) {
+    let mut session = Session::open(read.seed, read.draw);
+    let frames = match session.score_call(&read.score.call()) {
         Some(Outcome::Accepted { frames, .. }) => frames,
         Some(Outcome::Refused(number)) => return refused(number, read.draw),
         None => panic!("a V line has one of the waves"),
     };
+    let tally = &session.stations[0];
     let mut text = format!("G\t{:016x}\t{}\n", tally.state(), tally.draw);
     for (i, &frame) in frames.iter().enumerate() {
         writeln!(text, "F\t{i}\t{:08x}", pattern(frame)).expect("a string takes any text");
@@ -113,6 +111,10 @@ fn read(text: &[u8]) -> Option<TextScore> {
         seed: hex(seed, 16)?,
         draw: decimal(draw)?,
         score: Score {
+            seeds: STATIONS,
+            counts: STATIONS,
+            // "A text score plays on station 0, which its G line opens."
+            station: 0,
             rate: decimal(rate)?,
             tempo: float(tempo)?,
             steps_per_beat: decimal(steps_per_beat)?,

@@ -6,11 +6,11 @@ use lib.Ieee.{Float}
 use Rattle.outcome.specs.Answer.{Result, seen, reported, outAfter, free}
 use Rattle.outcome.specs.declared.answer.Outcome.{Outcome}
 use Rattle.outcome.specs.declared.answer.Outcome.the-variants.{Played, Refused}
-use Rattle.harness.specs.Called.{none, made, numberIn, stateAfterResult, Places, Holds}
+use Rattle.harness.specs.Called.{none, made, numberIn, Places, Holds}
 
 module _ (p : Places) where
-  pub none-holds : p .number ≡ 4294967295 → p .draws ≡ p .draws₀ → p .state ≡ p .state₀ → p .out ≡ p .out₀ → p .string ≡ p .string₀ → Holds none p
-  none-holds n d s o t = record { number = n; draws = d; state = s; frames = o; string = t }
+  pub none-holds : p .number ≡ 4294967295 → p .draws ≡ p .draws₀ → p .out ≡ p .out₀ → p .string ≡ p .string₀ → Holds none p
+  none-holds n d o t = record { number = n; draws = d; frames = o; string = t }
 
 -- number and draws of an outcome, whatever the frames are
 number-seen : (a : Outcome) (out : List Float) → numberIn (seen a []) ≡ numberIn (seen a out)
@@ -28,11 +28,10 @@ pub record Returned (p : Places) (x : Result) (a : Outcome) : Type 0 where
   pub string : drop (free 9600 x) (p .string) ≡ drop (free 9600 x) (p .string₀)
 
 pub made-holds : {p : Places} {x : Result} {a : Outcome} → Returned p x a → p .number ≡ numberIn (seen a []) → p .draws ≡ reported (seen a [])
-    → p .state ≡ stateAfterResult (p .state₀) x → Holds (made x) p
-made-holds {p} {x} {a} h n d s = record {
+    → Holds (made x) p
+made-holds {p} {x} {a} h n d = record {
   number = n ∙ number-seen a (p .out) ∙ ap numberIn (h .answer);
   draws = d ∙ draws-seen a (p .out) ∙ ap reported (h .answer);
-  state = s;
   frames = h .frames;
   string = h .string;
 }

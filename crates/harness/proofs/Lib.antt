@@ -1,3 +1,4 @@
+mod Eight
 mod Ends
 mod NoteEnds
 mod ScoreEnds

@@ -8,7 +8,7 @@ use Rattle.outcome.specs.Answer.{Result, refused, accepted, seen, reported}
 use Rattle.note.specs.NoteCall.{NoteEvent, Voiced, noteResultOf, noteResultIn, rngAfter}
 use Rattle.note.specs.declared.answer.NoteAnswer.{NoteAnswer}
 use Rattle.harness_knobs.specs.Knobs.{voiceAt}
-use Rattle.harness.specs.Called.{Called, none, made, numberIn, stateAfterResult, Places, Holds}
+use Rattle.harness.specs.Called.{Called, none, made, numberIn, stateAfterResult, stateAfterCall, Places, Holds}
 use Rattle.harness.specs.Note.{NoteExport, NoteExported, handedWith, noteCalledWith, noteCalled}
 use Rattle.harness_knobs.specs.declared.VoiceAt.{VoiceAt}
 use Rattle.harness_knobs.specs.declared.VoiceAt.the-variants.{Voice, Nothing}
@@ -38,13 +38,13 @@ module _ (e : NoteExport) where
   abbrev p : Places
   p = e .places
 
-  exported : (x : Called) → noteCalled e ≡ x → Holds x p → NoteExported e
-  exported x q h = rw q h
+  exported : (x : Called) → noteCalled e ≡ x → Holds x p → e .state ≡ stateAfterCall (e .state₀) x → NoteExported e
+  exported x q h s = record { places = rw q h; state = rw q s }
 
-  pub not-called : Nothing ≡ voiceAt (e .wave) (e .knobs) → Holds none p → NoteExported e
+  pub not-called : Nothing ≡ voiceAt (e .wave) (e .knobs) → Holds none p → e .state ≡ e .state₀ → NoteExported e
   not-called v = exported none (ap (λ (x : VoiceAt). noteCalledWith x e) (sym v))
 
-  module _ (v : SeqVoice) (g : Rng) (a : NoteAnswer) (voice : Voice v ≡ voiceAt (e .wave) (e .knobs)) (state : g .0 ≡ p .state₀) (call : Voiced (callOf e v g a)) where
+  module _ (v : SeqVoice) (g : Rng) (a : NoteAnswer) (voice : Voice v ≡ voiceAt (e .wave) (e .knobs)) (state : g .0 ≡ e .state₀) (call : Voiced (callOf e v g a)) where
     abbrev result : Result
     result = noteResultIn (callOf e v g a)
 
@@ -54,7 +54,7 @@ module _ (e : NoteExport) where
     returned : Returned p result (a .outcome)
     returned = record { answer = call .answer; frames = call .frames; string = call .string }
 
-    pub call-holds : p .number ≡ numberIn (seen (a .outcome) []) → p .draws ≡ reported (seen (a .outcome) []) → p .state ≡ a .rng .0 → NoteExported e
+    pub call-holds : p .number ≡ numberIn (seen (a .outcome) []) → p .draws ≡ reported (seen (a .outcome) []) → e .state ≡ a .rng .0 → NoteExported e
     call-holds n d s =
         let after = s ∙ ap (λ (x : Rng). x .0) (call .rng) ∙ state-after g result ∙ ap (λ (x : ℕ). stateAfterResult x result) state in
-        exported (made result) called (made-holds returned n d after)
+        exported (made result) called (made-holds returned n d) after

@@ -1,11 +1,13 @@
 -- What an exported call comes to: the numbers that C gets, and what it leaves.
-use Prim.Native.Nat.{ℕ, _+_}
+use Prim.Native.Nat.{ℕ}
 use mathlib.Core.Path.{_≡_}
 use mathlib.Core.List.{List}
 use lib.ListN.{drop}
 use lib.Ieee.{Float}
 use Rattle.rng.specs.SplitMix64.{stateAfter}
 use Rattle.outcome.specs.Answer.{Result, refused, accepted, reported, outAfter, free}
+use Rattle.session.specs.declared.session.Session.{Session}
+use Rattle.score_contract.specs.SessionCall.{sessionAfter}
 
 -- no call is made where the knobs or the wave are not such; otherwise there is a result
 pub data Called : Type 0 where
@@ -35,14 +37,10 @@ abbrev pub stateAfterCall : ℕ → Called → ℕ
 stateAfterCall s none = s
 stateAfterCall s (made r) = stateAfterResult s r
 
--- what the count's place holds; d is what it held before
-abbrev pub drawAfterResult : ℕ → Result → ℕ
-drawAfterResult d (refused number) = d
-drawAfterResult d (accepted draws frames) = d + draws
-
-abbrev pub drawAfterCall : ℕ → Called → ℕ
-drawAfterCall d none = d
-drawAfterCall d (made r) = drawAfterResult d r
+-- what the counts' places hold after a call on station k of the session a
+abbrev pub countsAfterCall : Session → ℕ → Called → List ℕ
+countsAfterCall a k none = a .draws
+countsAfterCall a k (made r) = sessionAfter a k r .draws
 
 abbrev pub outAfterCall : List Float → Called → List Float
 outAfterCall out none = out
@@ -56,8 +54,6 @@ freeAfterCall m (made r) = free m r
 -- What every exported call answers, and what the places hold that it is lent: those with ₀ before it, the others after it.
 pub record Places : Type 0 where
   pub number : ℕ
-  pub state₀ : ℕ
-  pub state : ℕ
   pub draws₀ : ℕ
   pub draws : ℕ
   pub out₀ : List Float
@@ -69,6 +65,5 @@ pub record Places : Type 0 where
 pub record Holds (x : Called) (p : Places) : Type 0 where
   pub number : p .number ≡ numberOfCall x
   pub draws : p .draws ≡ drawsAfterCall (p .draws₀) x
-  pub state : p .state ≡ stateAfterCall (p .state₀) x
   pub frames : p .out ≡ outAfterCall (p .out₀) x
   pub string : drop (freeAfterCall 9600 x) (p .string) ≡ drop (freeAfterCall 9600 x) (p .string₀)

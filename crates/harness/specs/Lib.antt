@@ -1,3 +1,4 @@
 pub mod Called
 pub mod Note
 pub mod Score
+pub mod Stations

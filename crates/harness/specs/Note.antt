@@ -1,5 +1,6 @@
 -- A note call from C: the note call's own definition, from numbers.
 use Prim.Native.Nat.{ℕ}
+use mathlib.Core.Path.{_≡_}
 use mathlib.Core.List.{List}
 use lib.ListN.{length}
 use lib.Ieee.{Float}
@@ -7,11 +8,11 @@ use Rattle.dsl.specs.declared.knobs.SeqVoice.{SeqVoice}
 use Rattle.note_verdict.specs.NoteRefusals.{NoteHanded}
 use Rattle.note.specs.NoteCall.{noteResultOf}
 use Rattle.harness_knobs.specs.Knobs.{voiceAt}
-use Rattle.harness.specs.Called.{Called, none, made, Places, Holds}
+use Rattle.harness.specs.Called.{Called, none, made, stateAfterCall, Places, Holds}
 use Rattle.harness_knobs.specs.declared.VoiceAt.{VoiceAt}
 use Rattle.harness_knobs.specs.declared.VoiceAt.the-variants.{Voice, Nothing}
 
--- What was handed in, and what was lent and answered.
+-- What was handed in, and what was lent and answered. `state` is the generator's.
 pub record NoteExport : Type 0 where
   pub rate : ℕ
   pub wave : ℕ
@@ -19,6 +20,8 @@ pub record NoteExport : Type 0 where
   pub gain : Float
   pub pitch : List Float
   pub duty : List Float
+  pub state₀ : ℕ
+  pub state : ℕ
   pub places : Places
 
 -- what the note call is handed with the voice v
@@ -34,12 +37,13 @@ handedWith v e = record {
 }
 
 abbrev pub noteCalledWith : VoiceAt → NoteExport → Called
-noteCalledWith (Voice v) e = made (noteResultOf (handedWith v e) (e .places .state₀))
+noteCalledWith (Voice v) e = made (noteResultOf (handedWith v e) (e .state₀))
 noteCalledWith Nothing e = none
 
 abbrev pub noteCalled : NoteExport → Called
 noteCalled e = noteCalledWith (voiceAt (e .wave) (e .knobs)) e
 
 -- The contract: all is as in the note call of that voice.
-abbrev pub NoteExported : NoteExport → Type 0
-NoteExported e = Holds (noteCalled e) (e .places)
+pub record NoteExported (e : NoteExport) : Type 0 where
+  pub places : Holds (noteCalled e) (e .places)
+  pub state : e .state ≡ stateAfterCall (e .state₀) (noteCalled e)

@@ -6,6 +6,7 @@ mod kernels; // kernels.rt: the kernels of det
 mod notes; // notes.rt: the note call
 mod outcomes; // outcomes.rt: the numbers of an outcome
 mod scores; // scores.rt: the score call
+mod sessions; // sessions.rt: eight seeds and eight counts
 mod tones; // tones.rt: the quarter tones
 
 pub use boards::h_board;

@@ -29,10 +29,10 @@ pub extern "C" fn h_note(
       gain = gain;
       pitch = now (pitch .entry);
       duty = now (duty .entry);
+      state₀ = now (state .entry);
+      state = now (state .exit);
       places = record {
         number = r;
-        state₀ = now (state .entry);
-        state = now (state .exit);
         draws₀ = now (draws .entry);
         draws = now (draws .exit);
         out₀ = now (out .entry);

@@ -3,25 +3,29 @@ ghost use Rattle.harness_map.specs.Words.{mapOf};
 ghost use Rattle.harness.specs.Score.{ScoreExported};
 use crate::outcomes::draws_of;
 use crate::outcomes::number_of;
+use crate::sessions::eight;
+use crate::sessions::put_count;
+use crate::sessions::whole;
 use harness_knobs::EnvAt;
 use harness_knobs::VoiceAt;
 use harness_knobs::env_at;
 use harness_knobs::voice_at;
-use rng::Rng;
 use score::Seq;
 use score::Timing;
 use session::Session;
 
-// 0 where the call is accepted, else the refusal's number. `state` is the state of the session's
-// generator, not its seed, and `draw` the session's count; both change only with an accepted call.
+// 0 where the call is accepted, else the refusal's number. `seeds` and `counts` are the session's, eight of each; the
+// count of the station that is named changes with an accepted call, and nothing else of them.
 // `draws` gets the draws made, 0 for a refusal. `points` has four words a tempo point: the numerator's low
-// and high word, the denominator, the tempo's bits. Where there is no such wave, there are not 22 knobs and
-// 5 numbers of an envelope, or `points` is no multiple of four, the answer is 4294967295 and nothing changes.
+// and high word, the denominator, the tempo's bits. Where there are not eight seeds and
+// counts, there is no such wave, there are not 22 knobs and 5 numbers of an envelope, or `points` is no multiple of four,
+// the answer is 4294967295 and nothing changes.
 #[no_mangle]
 pub extern "C" fn h_score(
-    state: &mut u64,
-    draw: &mut u64,
+    seeds: &[u64],
+    counts: &mut [u64],
     draws: &mut u64,
+    station: u32,
     rate: u32,
     tempo: f32,
     steps_per_beat: u32,
@@ -40,6 +44,8 @@ pub extern "C" fn h_score(
     string: &mut [f32],
 ) -> u32
     ensures { λ r. ⌜ ScoreExported (record {
+      seeds = now (seeds .entry);
+      station = station;
       timing = record { rate = rate; tempo = tempo; «steps_per_beat» = «steps_per_beat»; «tempo_map» = mapOf (now (points .entry)); swing = swing; humanize = humanize };
       points = now (points .entry);
       hop = hop;
@@ -49,14 +55,12 @@ pub extern "C" fn h_score(
       env = now (env .entry);
       notes = now (notes .entry);
       lane = now (lane .entry);
-      draw₀ = now (draw .entry);
-      draw = now (draw .exit);
+      counts₀ = now (counts .entry);
+      counts = now (counts .exit);
       buffer₀ = now («note_buf» .entry);
       buffer = now («note_buf» .exit);
       places = record {
         number = r;
-        state₀ = now (state .entry);
-        state = now (state .exit);
         draws₀ = now (draws .entry);
         draws = now (draws .exit);
         out₀ = now (out .entry);
@@ -72,7 +76,7 @@ pub extern "C" fn h_score(
     let EnvAt::Env(env) = env_at(env) else {
         return u32::MAX;
     };
-    if points.len() % 4 != 0 {
+    if !whole(seeds.len(), counts.len(), points.len()) {
         return u32::MAX;
     }
     let timing = Timing {
@@ -90,15 +94,15 @@ pub extern "C" fn h_score(
         duty,
         env,
     };
+    let held = &counts[..8];
     let session = Session {
-        rng: Rng::new(*state),
-        draw: *draw,
+        seeds: eight(seeds),
+        draws: eight(held),
     };
-    let answer = seq::render_seq(session, seq, notes, lane, out, note_buf, string);
+    let answer = seq::render_seq(session, station, seq, notes, lane, out, note_buf, string);
     let after = answer.session;
     let outcome = answer.outcome;
-    *state = after.rng.state();
-    *draw = after.draw;
+    put_count(counts, station, after);
     *draws = draws_of(outcome);
     number_of(outcome)
 }

@@ -3,7 +3,7 @@ use Prim.Native.Nat.{ℕ}
 use mathlib.Core.List.{List, []}
 use lib.Ieee.{Float}
 use Rattle.outcome.specs.declared.answer.Refusal.{Refusal}
-use Rattle.outcome.specs.declared.answer.Refusal.the-variants.{Rate, Frames, Tempo, StepsPerBeat, Tone, TempoPoints, TempoOrder, Groove, Knobs, Hop, Words}
+use Rattle.outcome.specs.declared.answer.Refusal.the-variants.{NoStation, Rate, Frames, Tempo, StepsPerBeat, Tone, TempoPoints, TempoOrder, Groove, Knobs, Hop, Words}
 use Rattle.outcome.specs.declared.answer.Refusal.the-variants.{Kind, Steps, Size, Lane, Reach, NoPitch, Lengths, NoteBuffer, StringBuffer, Draws}
 use Rattle.outcome.specs.declared.answer.Outcome.{Outcome}
 use Rattle.outcome.specs.declared.answer.Outcome.the-variants.{Played, Refused}
@@ -12,6 +12,7 @@ use Rattle.outcome.specs.declared.answer.Verdict.the-variants.{Fine, Ref
 
 -- 01's number of a refusal
 abbrev pub numberOf : Refusal → ℕ
+numberOf NoStation = 33
 numberOf Rate = 1
 numberOf Frames = 2
 numberOf Tempo = 3

@@ -3,6 +3,7 @@ ghost use mathlib.Core.Path.{_≡_};
 ghost use Rattle.outcome.specs.Answer.{numberOf};
 
 pub enum Refusal {
+    NoStation,
     Rate,
     Frames,
     Tempo,
@@ -31,6 +32,7 @@ impl Refusal {
         ensures { λ r. ⌜ r ≡ numberOf self ⌝ }
     {
         match self {
+            Refusal::NoStation => 33,
             Refusal::Rate => 1,
             Refusal::Frames => 2,
             Refusal::Tempo => 3,

@@ -1,2 +1,3 @@
 pub mod Notes
 pub mod Widened
+pub mod Stations

@@ -1,9 +1,12 @@
 // Replays score calls whose answers the original gave. A line of standard input is
-//   open SEED DRAW
-// which opens a session, or a call on it:
+//   open S0 D0 S1 D1 .. S7 D7
+// which opens a session, of the seed and the draw count of each station, or a call on it:
 //   score RATE TEMPO STEPS-PER-BEAT SWING HUMANIZE WAVE DUTY N NOTE-BUFFER STRING, then how many
-//   knobs, envelope numbers, note words, lane values and words of tempo points there are, then HOP, and these
-// A session's state is appended, or a call's number, its draws, the session after it and the frames.
+//   knobs, envelope numbers, note words, lane values and words of tempo points there are, then HOP and
+//   STATION, and these
+// The states of a session's eight generators are appended, or a call's number, its draws, the state of its
+// station's generator, the session's eight counts after it and the frames. The state is 0 where no call is
+// made or there is no such station.
 ghost use Prim.Native.Nat.{_≤_};
 use dsl::Adsr;
 use dsl::SeqVoice;
@@ -11,7 +14,6 @@ use harness_knobs::EnvAt;
 use harness_knobs::VoiceAt;
 use libc::STDIN_FILENO;
 use outcome::Outcome;
-use rng::Rng;
 use score::Seq;
 use score::Timing;
 use session::Session;
@@ -21,6 +23,8 @@ use tempo::TempoMap;
 const MOST: usize = 64;
 
 const MOST_POINTS: usize = 264;
+
+const STATIONS: usize = 8;
 
 // What the draws hold before a call, and after one that is not made.
 const DRAWS_BEFORE: u64 = 0x5555;
@@ -64,12 +68,12 @@ fn point_words(line: &[u8], from: usize) -> [u32; 264]
 
 fn voice_of(line: &[u8]) -> VoiceAt {
     let count = vectors::length_field(line, 11, MOST);
-    let values = floats(line, 17);
+    let values = floats(line, 18);
     harness_knobs::voice_at(vectors::u32_field(line, 6), &values[..count])
 }
 
 fn env_of(line: &[u8]) -> EnvAt {
-    let from = 17 + vectors::length_field(line, 11, MOST);
+    let from = 18 + vectors::length_field(line, 11, MOST);
     let count = vectors::length_field(line, 12, MOST);
     let values = floats(line, from);
     harness_knobs::env_at(&values[..count])
@@ -77,7 +81,7 @@ fn env_of(line: &[u8]) -> EnvAt {
 
 // The points follow all other values.
 fn map_of(line: &[u8]) -> TempoMap {
-    let from = 17
+    let from = 18
         + vectors::length_field(line, 11, MOST)
         + vectors::length_field(line, 12, MOST)
         + vectors::length_field(line, 13, MOST)
@@ -118,9 +122,13 @@ fn print_outcome(outcome: Outcome) {
     }
 }
 
-fn print_session(session: Session) {
-    vectors::print_u64(session.rng.state());
-    vectors::print_u64(session.draw);
+fn print_counts(session: Session) {
+    let counts = session.draws;
+    let mut k = 0;
+    while k < STATIONS {
+        vectors::print_u64(counts[k]);
+        k += 1;
+    }
 }
 
 fn print_frames(out: &[f32; 64], n: usize)
@@ -148,6 +156,7 @@ fn call(line: &[u8], session: Session, seq: Seq, notes: &[u32], lane: &[f32]) ->
     let mut string = [0.0f32; 9616];
     let answer = seq::render_seq(
         session,
+        vectors::u32_field(line, 17),
         seq,
         notes,
         lane,
@@ -156,9 +165,11 @@ fn call(line: &[u8], session: Session, seq: Seq, notes: &[u32], lane: &[f32]) ->
         &mut string[..string_len],
     );
     let outcome = answer.outcome;
+    let rng = answer.rng;
     let after = answer.session;
     print_outcome(outcome);
-    print_session(after);
+    vectors::print_u64(rng.state());
+    print_counts(after);
     print_frames(&out, n);
     after
 }
@@ -167,7 +178,7 @@ fn call(line: &[u8], session: Session, seq: Seq, notes: &[u32], lane: &[f32]) ->
 fn score(line: &[u8], session: Session, seq: Seq) -> Session {
     let word_count = vectors::length_field(line, 13, MOST);
     let lane_count = vectors::length_field(line, 14, MOST);
-    let words_at = 17
+    let words_at = 18
         + vectors::length_field(line, 11, MOST)
         + vectors::length_field(line, 12, MOST);
     let notes = words(line, words_at);
@@ -185,7 +196,8 @@ fn score(line: &[u8], session: Session, seq: Seq) -> Session {
 fn no_call(line: &[u8], session: Session) -> Session {
     vectors::print_u64(u32::MAX as u64);
     vectors::print_u64(DRAWS_BEFORE);
-    print_session(session);
+    vectors::print_u64(0);
+    print_counts(session);
     print_frames(&frames(), vectors::length_field(line, 8, 64));
     session
 }
@@ -203,9 +215,35 @@ fn score_line(line: &[u8], session: Session) -> Session {
     score(line, session, seq_of(line, voice, env))
 }
 
+// Every second number of the eight pairs, from the pairs' field `from` on.
+fn each_second(line: &[u8], from: usize) -> [u64; 8]
+    requires { ⌜ from ≤ 2 ⌝ }
+{
+    let mut out = [0u64; 8];
+    let mut k = 0;
+    while k < STATIONS {
+        out[k] = vectors::u64_field(line, from + 2 * k);
+        k += 1;
+    }
+    out
+}
+
+fn print_states(session: Session) {
+    let mut k = 0;
+    while k < STATIONS {
+        let station = session.station(k);
+        let rng = station.rng;
+        vectors::print_u64(rng.state());
+        k += 1;
+    }
+}
+
 fn open(line: &[u8]) -> Session {
-    let session = Session::open(vectors::u64_field(line, 1), vectors::u64_field(line, 2));
-    vectors::print_u64(session.rng.state());
+    let session = Session {
+        seeds: each_second(line, 1),
+        draws: each_second(line, 2),
+    };
+    print_states(session);
     session
 }
 
@@ -218,10 +256,7 @@ fn replay_line(line: &[u8], session: Session) -> Session {
 }
 
 fn replay(text: &[u8]) {
-    let mut session = Session {
-        rng: Rng::new(0),
-        draw: 0,
-    };
+    let mut session = Session::open(0, 0);
     let mut at = 0;
     while at < text.len() {
         let end = vectors::line_end(text, at);

@@ -19,9 +19,9 @@ use Rattle.outcome.specs.declared.answer.Verdict.the-variants.{Fine, Refuse}
 use Rattle.score.specs.Score.{Score, scoreDraws}
 use Rattle.score_contract.specs.Frames.{scoreFrames}
 use Rattle.score.specs.Refusals.{refusal, refusalAt}
-use Rattle.score_contract.specs.ScoreCall.{Event, Scored, scoreIn, sessionAfter, resultOf, resultIn}
-use Rattle.session.specs.declared.Session.{Session}
-use Rattle.session.specs.declared.Answer.{Answer}
+use Rattle.score_contract.specs.ScoreCall.{Event, Scored, scoreIn, stationAfter, resultOf, resultIn}
+use Rattle.session.specs.declared.station.Station.{Station}
+use Rattle.session.specs.declared.station.StationAnswer.{StationAnswer}
 use Rattle.score_draws.specs.Sum.{sumOf}
 use Rattle.score_draws.specs.declared.Sum.the-variants.{Over, Total}
 
@@ -59,8 +59,8 @@ module _ (s : Score) (d : ℕ) where
         let h : d + scoreDraws s ≤ 2 ^ 64 - 1 = omega (arith, total-fits (2 ^ 64 - 1 - d) (scoreDraws s) t o) in
         rw (sym none, le-ltb _ _ h)
 
--- ---- a call on the session a
-module _ (a : Session) (e : Event) where
+-- ---- a call on the station a
+module _ (a : Station) (e : Event) where
   abbrev at : Verdict
   at = refusalAt (scoreIn e) (a .draw)
 
@@ -71,23 +71,23 @@ module _ (a : Session) (e : Event) where
   unfolding resultOf
   comes-to n = ap (λ (v : Verdict). unless v full) (sym n)
 
-  refused-by : {r : Refusal} → Refuse r ≡ at → e .answer ≡ record { session = a; outcome = Refused r } → e .out ≡ e .out₀ → e .buffer ≡ e .buffer₀ → e .string ≡ e .string₀ → Scored a e
+  refused-by : {r : Refusal} → Refuse r ≡ at → e .answer ≡ record { station = a; outcome = Refused r } → e .out ≡ e .out₀ → e .buffer ≡ e .buffer₀ → e .string ≡ e .string₀ → Scored a e
   refused-by n ans o b s =
       let q = comes-to n in record {
-        answer = ap (λ (x : Answer). seen (x .outcome) (e .out)) ans ∙ sym q;
-        session = ap (λ (x : Answer). x .session) ans ∙ ap (sessionAfter a) (sym q);
+        answer = ap (λ (x : StationAnswer). seen (x .outcome) (e .out)) ans ∙ sym q;
+        station = ap (λ (x : StationAnswer). x .station) ans ∙ ap (stationAfter a) (sym q);
         frames = o ∙ ap (outAfter (e .out₀)) (sym q);
         buffer = ap (drop (free (length (e .out₀)) (resultIn a e))) b;
         string = ap (drop (free 9600 (resultIn a e))) s;
       }
 
   accepted-by : Fine ≡ at → (g : Rng) (t : ℕ) → t ≡ scoreDraws (scoreIn e) → g .0 ≡ stateAfter (a .rng .0) (scoreDraws (scoreIn e))
-      → e .answer ≡ record { session = record { rng = g; draw = a .draw + t }; outcome = Played t } → e .out ≡ scoreFrames (scoreIn e) (a .rng .0) 0
+      → e .answer ≡ record { station = record { rng = g; draw = a .draw + t }; outcome = Played t } → e .out ≡ scoreFrames (scoreIn e) (a .rng .0) 0
       → drop (length (e .out₀)) (e .buffer) ≡ drop (length (e .out₀)) (e .buffer₀) → drop 9600 (e .string) ≡ drop 9600 (e .string₀) → Scored a e
   accepted-by n g t et eg ans o b s =
       let q = comes-to n in record {
-        answer = ap (λ (x : Answer). seen (x .outcome) (e .out)) ans ∙ (λ j. accepted (et j) (o j)) ∙ sym q;
-        session = ap (λ (x : Answer). x .session) ans ∙ (λ j. record { rng = record { 0 = eg j }; draw = a .draw + et j }) ∙ ap (sessionAfter a) (sym q);
+        answer = ap (λ (x : StationAnswer). seen (x .outcome) (e .out)) ans ∙ (λ j. accepted (et j) (o j)) ∙ sym q;
+        station = ap (λ (x : StationAnswer). x .station) ans ∙ (λ j. record { rng = record { 0 = eg j }; draw = a .draw + et j }) ∙ ap (stationAfter a) (sym q);
         frames = o ∙ ap (outAfter (e .out₀)) (sym q);
         buffer = rw q b;
         string = rw q s;
@@ -98,17 +98,17 @@ module _ (a : Session) (e : Event) where
   left = 2 ^ 64 - 1 - a .draw
 
   -- a refusal that is not 22
-  pub refused-call : {r : Refusal} → Refuse r ≡ refusal (scoreIn e) → e .answer ≡ record { session = a; outcome = Refused r } → e .out ≡ e .out₀ → e .buffer ≡ e .buffer₀
+  pub refused-call : {r : Refusal} → Refuse r ≡ refusal (scoreIn e) → e .answer ≡ record { station = a; outcome = Refused r } → e .out ≡ e .out₀ → e .buffer ≡ e .buffer₀
       → e .string ≡ e .string₀ → Scored a e
   refused-call n = refused-by (refused-first (scoreIn e) (a .draw) n)
 
   module _ (none : Fine ≡ refusal (scoreIn e)) (fits : a .draw < 2 ^ 64) where
-    pub overdrawn-call : Over ≡ sumOf left (scoreDraws (scoreIn e)) → e .answer ≡ record { session = a; outcome = Refused Draws } → e .out ≡ e .out₀ → e .buffer ≡ e .buffer₀
+    pub overdrawn-call : Over ≡ sumOf left (scoreDraws (scoreIn e)) → e .answer ≡ record { station = a; outcome = Refused Draws } → e .out ≡ e .out₀ → e .buffer ≡ e .buffer₀
         → e .string ≡ e .string₀ → Scored a e
     overdrawn-call over = refused-by (refused-last (scoreIn e) (a .draw) none fits over)
 
     pub accepted-call : (g : Rng) (t : ℕ) → Total t ≡ sumOf left (scoreDraws (scoreIn e)) → g .0 ≡ stateAfter (a .rng .0) (scoreDraws (scoreIn e))
-        → e .answer ≡ record { session = record { rng = g; draw = a .draw + t }; outcome = Played t } → e .out ≡ scoreFrames (scoreIn e) (a .rng .0) 0
+        → e .answer ≡ record { station = record { rng = g; draw = a .draw + t }; outcome = Played t } → e .out ≡ scoreFrames (scoreIn e) (a .rng .0) 0
         → drop (length (e .out₀)) (e .buffer) ≡ drop (length (e .out₀)) (e .buffer₀) → drop 9600 (e .string) ≡ drop 9600 (e .string₀) → Scored a e
     accepted-call g t is = accepted-by (refused-not (scoreIn e) (a .draw) none fits t is) g t (total-exact left (scoreDraws (scoreIn e)) t is)
 

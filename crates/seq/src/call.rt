@@ -1,20 +1,19 @@
 // The score call.
-ghost use Rattle.score_contract.specs.ScoreCall.{Scored};
+ghost use Rattle.score_contract.specs.SessionCall.{SessionScored};
+use crate::station::render_station;
 use outcome::Outcome;
 use outcome::Refusal;
-use outcome::Verdict;
-use score::Lent;
+use rng::Rng;
 use score::Seq;
-use score_draws::Sum;
-use score_notes::play_notes;
 use session::Answer;
 use session::Session;
 
-// Fills `out` with a score, and answers how many draws it made and the session after them. `notes` has
-// five words a note, and the curves of pitches are parts of `lane`. An accepted call uses as many values
-// of `note_buf` as `out` has, and the first 9,600 of `string`; a refused call changes nothing.
+// Fills `out` with a score, played on the station that the call names, and answers how many draws it made and the
+// session after them. `notes` has five words a note, and the curves of pitches are parts of `lane`. An accepted call
+// uses as many values of `note_buf` as `out` has, and the first 9,600 of `string`; a refused call changes nothing.
 pub fn render_seq(
     session: Session,
+    station: u32,
     seq: Seq,
     notes: &[u32],
     lane: &[f32],
@@ -22,7 +21,8 @@ pub fn render_seq(
     note_buf: &mut [f32],
     string: &mut [f32],
 ) -> Answer
-    ensures { λ r. ⌜ Scored session (record {
+    ensures { λ r. ⌜ SessionScored session (record {
+      station = station;
       seq = seq;
       notes = now (notes .entry);
       lane = now (lane .entry);
@@ -35,30 +35,22 @@ pub fn render_seq(
       string = now (string .exit);
     }) ⌝ }
 {
-    let lent = Lent {
-        n: out.len(),
-        room: note_buf.len(),
-        string: string.len(),
-    };
-    if let Verdict::Refuse(r) = score_verdict::score_verdict(seq, notes, lane, lent) {
+    if station > 7 {
         return Answer {
             session,
-            outcome: Outcome::Refused(r),
+            rng: Rng::new(0),
+            outcome: Outcome::Refused(Refusal::NoStation),
         };
     }
-    let draw = session.draw;
-    let sum = score_draws::score_draws(seq, notes, lane, lent, u64::MAX - draw);
-    let Sum::Total(d) = sum else {
-        return Answer {
-            session,
-            outcome: Outcome::Refused(Refusal::Draws),
-        };
-    };
-    let rng = play_notes(session.rng, seq, notes, lane, lent, out, note_buf, string);
-    let count = draw + d;
-    let after = Session { rng, draw: count };
+    let k = station as usize;
+    let one = session.station(k);
+    let answer = render_station(one, seq, notes, lane, out, note_buf, string);
+    let after = answer.station;
+    let rng = after.rng;
+    let outcome = answer.outcome;
     Answer {
-        session: after,
-        outcome: Outcome::Played(d),
+        session: session.with_draw(k, after.draw),
+        rng,
+        outcome,
     }
 }

@@ -1,4 +1,4 @@
--- Demand 3: every list of score calls agrees with the tally. The contract of a call speaks of the generator as the session holds it, the tally of the seed and a count of
+-- Demand 3: every list of score calls agrees with the tally. The contract of a call speaks of the generator as the station holds it, the tally of the seed and a count of
 -- draws; that these are the same is `state-add`. Assumes nothing.
 use Prim.Native.Nat.{ℕ, zero, suc, _+_}
 use mathlib.Core.Path.{_≡_, refl, sym, ap, _∙_}
@@ -15,9 +15,9 @@ use Rattle.outcome.proofs.First.{or-fine}
 use Rattle.score.specs.Score.{Score, noteIn, noteCount, drawsBefore, scoreDraws}
 use Rattle.score_contract.specs.Frames.{withNote, framesAfter, scoreFrames}
 use Rattle.score.specs.Refusals.{refusal, refusalAt}
-use Rattle.score_contract.specs.ScoreCall.{Event, scoreIn, sessionAfter, resultOf, resultIn}
-use Rattle.session.specs.Opened.{sessionAt}
-use Rattle.session.specs.declared.Session.{Session}
+use Rattle.score_contract.specs.ScoreCall.{Event, scoreIn, stationAfter, resultOf, resultIn}
+use Rattle.session.specs.Opened.{stationAt}
+use Rattle.session.specs.declared.station.Station.{Station}
 use Rattle.score.proofs.Notes.{draws-all}
 use Rattle.tally.specs.Tally.{Taken, allTaken, tallied, newDraw, tally, total, drawnBy}
 use Rattle.tally.specs.Claim.{Run, none, call, seenIn, Agrees}
@@ -25,7 +25,7 @@ use Rattle.tally.proofs.Alone.{alone}
 use Rattle.tally.proofs.Taking.{all-taken}
 
 -- ---- one accepted call
--- from the session's state, or from the seed and the session's count
+-- from the station's state, or from the seed and the station's count
 frames-on : (sc : Score) (seed d k : ℕ) → framesAfter sc (stateAfter seed d) 0 k ≡ framesAfter sc seed d k
 unfolding framesAfter
 frames-on sc seed d zero = refl
@@ -55,8 +55,8 @@ new-draw : (v : Verdict) (D : ℕ) (frames : List Float) (d x : ℕ) → (v ≡ 
 new-draw Fine D frames d x e = e refl
 new-draw (Refuse why) D frames d x e = sym (add-zero d)
 
--- what the contract says on the session at draw d is what the tally says
-pub one-call : (seed d : ℕ) (e : Event) → resultIn (sessionAt seed d) e ≡ tallied seed d (scoreIn e)
+-- what the contract says on the station at draw d is what the tally says
+pub one-call : (seed d : ℕ) (e : Event) → resultIn (stationAt seed d) e ≡ tallied seed d (scoreIn e)
 unfolding resultOf tallied scoreFrames
 one-call seed d e =
     let s = scoreIn e in
@@ -68,9 +68,9 @@ pub one-draw : (seed d : ℕ) (s : Score) → newDraw (tallied seed d s) d (allT
 unfolding tallied
 one-draw seed d s = new-draw (refusalAt s d) (scoreDraws s) _ d _ (λ fine. ap (λ (t : Taken). t .x) (taken-whole seed d s fine))
 
-session-on : (seed d : ℕ) (r : Result) → sessionAfter (sessionAt seed d) r ≡ sessionAt seed (d + reported r)
-session-on seed d (refused number) = ap (sessionAt seed) (sym (add-zero d))
-session-on seed d (accepted draws frames) = λ j. record { rng = record { 0 = state-add seed d draws j }; draw = d + draws }
+station-on : (seed d : ℕ) (r : Result) → stationAfter (stationAt seed d) r ≡ stationAt seed (d + reported r)
+station-on seed d (refused number) = ap (stationAt seed) (sym (add-zero d))
+station-on seed d (accepted draws frames) = λ j. record { rng = record { 0 = state-add seed d draws j }; draw = d + draws }
 
 -- the end is d and what the calls draw
 pub end-is : (seed d : ℕ) (ss : List Score) → tally seed d ss .end ≡ d + drawnBy seed d ss
@@ -80,24 +80,24 @@ end-is seed d (s ∷ ss) = omega (arith, end-is seed (newDraw (tallied seed d s)
 
 -- ---- a list of calls, from draw d on
 module _ (seed : ℕ) where
-  pub record Tallied (d : ℕ) (es : List Event) (b : Session) : Type 0 where
+  pub record Tallied (d : ℕ) (es : List Event) (b : Station) : Type 0 where
     pub results : map seenIn es ≡ tally seed d (map scoreIn es) .results
-    pub session : b ≡ sessionAt seed (tally seed d (map scoreIn es) .end)
+    pub station : b ≡ stationAt seed (tally seed d (map scoreIn es) .end)
 
-  from : (d : ℕ) {es : List Event} {a b : Session} → a ≡ sessionAt seed d → Run a es b → Tallied d es b
+  from : (d : ℕ) {es : List Event} {a b : Station} → a ≡ stationAt seed d → Run a es b → Tallied d es b
   unfolding tally
-  from d p none = record { results = refl; session = p }
+  from d p none = record { results = refl; station = p }
   from d p (call e scored rest) =
       let r = tallied seed d (scoreIn e) in
-      let same : resultIn _ e ≡ r = ap (λ (x : Session). resultIn x e) p ∙ one-call seed d e in
+      let same : resultIn _ e ≡ r = ap (λ (x : Station). resultIn x e) p ∙ one-call seed d e in
       let here : seenIn e ≡ r = scored .answer ∙ same in
       let new = one-draw seed d (scoreIn e) in
-      let on = scored .session ∙ ap (sessionAfter _) same ∙ ap (λ (x : Session). sessionAfter x r) p ∙ session-on seed d r ∙ ap (sessionAt seed) (sym new) in
+      let on = scored .station ∙ ap (stationAfter _) same ∙ ap (λ (x : Station). stationAfter x r) p ∙ station-on seed d r ∙ ap (stationAt seed) (sym new) in
       let later = from (newDraw r d (allTaken seed (scoreIn e) d .x)) on rest in
-      record { results = λ j. here j ∷ later .results j; session = later .session }
+      record { results = λ j. here j ∷ later .results j; station = later .station }
 
--- THE THEOREM: a session opened with the seed s at draw c, and any list of score calls on it.
-pub all-calls : (s c : ℕ) (es : List Event) (b : Session) → Run (sessionAt s c) es b → Agrees s c es b
+-- THE THEOREM: a station opened with the seed s at draw c, and any list of score calls on it.
+pub all-calls : (s c : ℕ) (es : List Event) (b : Station) → Run (stationAt s c) es b → Agrees s c es b
 all-calls s c es b run =
     let t = from s c refl run in
-    record { results = t .results; session = t .session; end = end-is s c (map scoreIn es); reports = ap total (t .results) }
+    record { results = t .results; station = t .station; end = end-is s c (map scoreIn es); reports = ap total (t .results) }

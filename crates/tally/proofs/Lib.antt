@@ -5,3 +5,4 @@ pub mod AllCalls
 pub mod Sum
 pub mod Lists
 pub mod Setting
+pub mod Stations

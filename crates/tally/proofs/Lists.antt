@@ -1,4 +1,4 @@
--- Demand 3 about a call, a note and a frame of any list of score calls: `Run (sessionAt s c) (es ++ e ∷ es′) b`. Assumes nothing.
+-- Demand 3 about a call, a note and a frame of any list of score calls: `Run (stationAt s c) (es ++ e ∷ es′) b`. Assumes nothing.
 use Prim.Native.Nat.{ℕ, suc, _+_, _<_}
 use mathlib.Core.Path.{_≡_, refl, sym, ap, _∙_}
 use mathlib.Core.List.{List, [], _∷_, _++_}
@@ -18,8 +18,8 @@ use Rattle.outcome.specs.declared.answer.Outcome.{Outcome}
 use Rattle.outcome.specs.declared.answer.Outcome.the-variants.{Played, Refused}
 use Rattle.outcome.specs.declared.answer.Verdict.{Verdict}
 use Rattle.outcome.specs.declared.answer.Verdict.the-variants.{Fine, Refuse}
-use Rattle.session.specs.Opened.{sessionAt}
-use Rattle.session.specs.declared.Session.{Session}
+use Rattle.session.specs.Opened.{stationAt}
+use Rattle.session.specs.declared.station.Station.{Station}
 use Rattle.score.specs.Score.{noteIn, noteCount, skips, drawsIn, noteDraws, drawsBefore, scoreDraws}
 use Rattle.score.specs.Refusals.{refusal, refusalAt}
 use Rattle.score.proofs.Accepted.{accepted-score, fine-in}
@@ -35,17 +35,17 @@ use Rattle.tally.proofs.AllCalls.{all-calls, not-refused, taken-whole, 
 use Rattle.tally.proofs.Sum.{frame-is}
 
 -- ---- a call in a list
--- the session that a call of a list finds
-record Found (a : Session) (es : List Event) (e : Event) : Type 0 where
-  pub at : Session
+-- the station that a call of a list finds
+record Found (a : Station) (es : List Event) (e : Event) : Type 0 where
+  pub at : Station
   pub before : Run a es at
   pub scored : Scored at e
 
-found : {a b : Session} (es : List Event) (e : Event) (es′ : List Event) → Run a (es ++ e ∷ es′) b → Found a es e
+found : {a b : Station} (es : List Event) (e : Event) (es′ : List Event) → Run a (es ++ e ∷ es′) b → Found a es e
 found [] e es′ (call _ scored rest) = record { at = _; before = none; scored = scored }
 found (x ∷ xs) e es′ (call _ scored rest) = let f = found xs e es′ rest in record { at = f .at; before = call x scored (f .before); scored = f .scored }
 
-module _ (s c : ℕ) (es : List Event) (e : Event) (es′ : List Event) (b : Session) (run : Run (sessionAt s c) (es ++ e ∷ es′) b) where
+module _ (s c : ℕ) (es : List Event) (e : Event) (es′ : List Event) (b : Station) (run : Run (stationAt s c) (es ++ e ∷ es′) b) where
   -- the draw at which the call begins: c, and what the calls before it reported
   abbrev start : ℕ
   start = c + reportedIn es
@@ -55,8 +55,8 @@ module _ (s c : ℕ) (es : List Event) (e : Event) (es′ : List Event) (b : Ses
   in-list =
       let f = found es e es′ run in
       let agrees = all-calls s c es (f .at) (f .before) in
-      let at = agrees .session ∙ ap (sessionAt s) (agrees .end ∙ ap (λ (t : ℕ). c + t) (sym (agrees .reports))) in
-      f .scored .answer ∙ ap (λ (x : Session). resultIn x e) at ∙ one-call s start e
+      let at = agrees .station ∙ ap (stationAt s) (agrees .end ∙ ap (λ (t : ℕ). c + t) (sym (agrees .reports))) in
+      f .scored .answer ∙ ap (λ (x : Station). resultIn x e) at ∙ one-call s start e
 
   module _ (D : ℕ) (frames : List Float) (is : seenIn e ≡ accepted D frames) where
     by-verdict : (v : Verdict) (T : ℕ) (fs : List Float) → accepted D frames ≡ unless v (accepted T fs) → (v ≡ Fine) × ((D ≡ T) × (frames ≡ fs))

@@ -33,8 +33,8 @@ use Rattle.outcome.specs.declared.answer.Refusal.the-variants.{Kind, Steps, Siz
 use Rattle.outcome.specs.declared.answer.Verdict.{Verdict}
 use Rattle.outcome.specs.declared.answer.Verdict.the-variants.{Fine, Refuse}
 use Rattle.outcome.proofs.First.{first-append}
-use Rattle.session.specs.Opened.{sessionAt}
-use Rattle.session.specs.declared.Session.{Session}
+use Rattle.session.specs.Opened.{stationAt}
+use Rattle.session.specs.declared.station.Station.{Station}
 use Rattle.score.specs.declared.seq.Timing.{Timing}
 use Rattle.score.specs.declared.place.Place.{Place}
 use Rattle.score.specs.Score.{Score, rateIn, waveIn, noteAt, noteIn, noteCount, notesIn, straightPlace, mappedPlace, placeOf, place, skips, pitch, drawsIn, noteDraws, drawsBefore, scoreDraws}
@@ -272,9 +272,9 @@ module _ (seed : ℕ) where
         ends = ap (λ (x : ℕ). tally seed x ss .end) here ∙ later .ends ∙ ap (λ (x : ℕ). tally seed x ss′ .end) (sym there);
       }
 
--- THE THEOREM, which a paper cites: of two lists of score calls, on sessions opened with one seed at one draw, that differ in nothing but knobs, duty, gains and envelopes, all
--- sized, each call is refused with the same number or accepted in both; each note starts from the same draw and state, and draws the same; and both sessions end alike.
-pub no-knob-moves-noise : (s c : ℕ) (es es′ : List Event) (b b′ : Session) → Run (sessionAt s c) es b → Run (sessionAt s c) es′ b′ → Resets (map scoreIn es) (map scoreIn es′)
+-- THE THEOREM, which a paper cites: of two lists of score calls, on stations opened with one seed at one draw, that differ in nothing but knobs, duty, gains and envelopes, all
+-- sized, each call is refused with the same number or accepted in both; each note starts from the same draw and state, and draws the same; and both stations end alike.
+pub no-knob-moves-noise : (s c : ℕ) (es es′ : List Event) (b b′ : Station) → Run (stationAt s c) es b → Run (stationAt s c) es′ b′ → Resets (map scoreIn es) (map scoreIn es′)
     → NoiseKept s c es es′ b b′
 no-knob-moves-noise s c es es′ b b′ run run′ resets =
     let t = both s c (map scoreIn es) (map scoreIn es′) resets in
@@ -283,5 +283,5 @@ no-knob-moves-noise s c es es′ b b′ run run′ resets =
     record {
       calls = t .calls;
       answers = ap (map silent) (a .results) ∙ t .answers ∙ ap (map silent) (sym (a′ .results));
-      ends = a .session ∙ ap (sessionAt s) (t .ends) ∙ sym (a′ .session);
+      ends = a .station ∙ ap (stationAt s) (t .ends) ∙ sym (a′ .station);
     }

@@ -4,3 +4,4 @@ pub mod Claim
 pub mod Sum
 pub mod Lists
 pub mod Setting
+pub mod Stations

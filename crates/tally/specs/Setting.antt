@@ -16,7 +16,7 @@ use Rattle.outcome.specs.declared.answer.Verdict.the-variants.{Fine, Refuse}
 use Rattle.score.specs.Score.{Score, rateIn, waveIn, noteIn, noteCount, place, pitch, noteDraws, scoreDraws}
 use Rattle.score.specs.Refusals.{voiceTests, refusalAt}
 use Rattle.score_contract.specs.ScoreCall.{Event, scoreIn}
-use Rattle.session.specs.declared.Session.{Session}
+use Rattle.session.specs.declared.station.Station.{Station}
 use Rattle.tally.specs.Claim.{seenIn}
 use Rattle.tally.specs.Lists.{drawOf}
 
@@ -84,8 +84,8 @@ abbrev pub silent : Result → Result
 silent (refused number) = refused number
 silent (accepted draws frames) = accepted draws []
 
--- What is claimed of two runs on sessions opened alike: the calls, what was seen of them, and the sessions at the end.
-pub record NoiseKept (seed c : ℕ) (es es′ : List Event) (b b′ : Session) : Type 0 where
+-- What is claimed of two runs on stations opened alike: the calls, what was seen of them, and the stations at the end.
+pub record NoiseKept (seed c : ℕ) (es es′ : List Event) (b b′ : Station) : Type 0 where
   pub calls : Unmoved seed c (map scoreIn es) (map scoreIn es′)
   pub answers : map silent (map seenIn es) ≡ map silent (map seenIn es′)
   pub ends : b ≡ b′

@@ -1,6 +1,6 @@
 -- The listing of a text score: of its one call by the theorem about lists of calls, and which of its cases a text is. Assumes nothing.
 use Prim.Native.Nat.{ℕ, zero, suc, _≤_, _<_}
-use mathlib.Core.Path.{_≡_, refl, sym, ap, _∙_, subst}
+use mathlib.Core.Path.{_≡_, refl, sym, ap, _∙_}
 use mathlib.Core.List.{List, [], _∷_}
 use mathlib.Core.Bool.{Bool, true, false, cond}
 use native.Mathlib.Omega.{arith}
@@ -11,9 +11,12 @@ use Rattle.rng.specs.SplitMix64.{stateAfter}
 use Rattle.outcome.specs.Answer.{Result}
 use Rattle.score.specs.Score.{Score}
 use Rattle.score_contract.specs.ScoreCall.{Event, Scored, scoreIn}
-use Rattle.session.specs.Opened.{sessionAt}
+use Rattle.score_contract.specs.SessionCall.{SessionEvent, SessionScored, onStation}
+use Rattle.score_contract.proofs.Stations.{first-station}
+use Rattle.session.specs.Opened.{stationAt, sessionAt, stationIn}
 use Rattle.score.specs.declared.seq.Seq.{Seq}
-use Rattle.session.specs.declared.Session.{Session}
+use Rattle.session.specs.declared.session.Session.{Session}
+use Rattle.session.specs.declared.station.Station.{Station}
 use Rattle.tally.specs.Tally.{tally}
 use Rattle.tally.specs.Claim.{none, call, seenIn}
 use Rattle.tally.proofs.AllCalls.{all-calls}
@@ -27,22 +30,23 @@ use Rattle.text.proofs.Refused.{refusal-long}
 use Rattle.text.specs.Listing.{callOf, shownAt, shownOne, shown, played, formBroken, tooLarge, textRefusal, playedRead, unlessRefused, listing}
 
 -- a session at a draw shows what its seed and that draw do
-shown-session : (seed end : ℕ) (b : Session) (r : Result) → b ≡ sessionAt seed end → shownAt (b .rng .0) (b .draw) r ≡ shownAt (stateAfter seed end) end r
-shown-session seed end b r e = ap (λ (x : Session). shownAt (x .rng .0) (x .draw) r) e
+shown-session : (seed end : ℕ) (b : Station) (r : Result) → b ≡ stationAt seed end → shownAt (b .rng .0) (b .draw) r ≡ shownAt (stateAfter seed end) end r
+shown-session seed end b r e = ap (λ (x : Station). shownAt (x .rng .0) (x .draw) r) e
 
-pub one-call : (seed draw : ℕ) (e : Event) → Scored (sessionAt seed draw) e
-    → shownAt (e .answer .session .rng .0) (e .answer .session .draw) (seenIn e) ≡ shown seed (tally seed draw (scoreIn e ∷ []))
+pub one-call : (seed draw : ℕ) (e : Event) → Scored (stationAt seed draw) e
+    → shownAt (e .answer .station .rng .0) (e .answer .station .draw) (seenIn e) ≡ shown seed (tally seed draw (scoreIn e ∷ []))
 one-call seed draw e scored =
-    let all = all-calls seed draw (e ∷ []) (e .answer .session) (call e scored none) in
+    let all = all-calls seed draw (e ∷ []) (e .answer .station) (call e scored none) in
     let t = tally seed draw (scoreIn e ∷ []) in
-    shown-session seed (t .end) (e .answer .session) (seenIn e) (all .session) ∙ ap (shownOne seed (t .end)) (all .results)
+    shown-session seed (t .end) (e .answer .station) (seenIn e) (all .station) ∙ ap (shownOne seed (t .end)) (all .results)
 
--- the call of a text score that was made on an opened session, and the buffers that it was lent
-pub played-by : (seq : Seq) (notes : List ℕ) (n seed draw : ℕ) (a : Session) (e : Event) → a ≡ sessionAt seed draw → Scored a e → scoreIn e ≡ callOf seq notes n
-    → shownAt (e .answer .session .rng .0) (e .answer .session .draw) (seenIn e) ≡ played seq notes n seed draw
+-- the call of a text score that was made on station 0 of an opened session, and the buffers that it was lent
+pub played-by : (seq : Seq) (notes : List ℕ) (n seed draw : ℕ) (a : Session) (e : SessionEvent) → a ≡ sessionAt seed draw → e .station ≡ 0 → SessionScored a e
+    → scoreIn (onStation e) ≡ callOf seq notes n
+    → shownAt (stationIn (e .answer .session) (e .station) .rng .0) (stationIn (e .answer .session) (e .station) .draw) (seenIn (onStation e)) ≡ played seq notes n seed draw
 unfolding played
-played-by seq notes n seed draw a e opened scored is =
-    one-call seed draw e (subst (λ (x : Session). Scored x e) opened scored) ∙ ap (λ (s : Score). shown seed (tally seed draw (s ∷ []))) is
+played-by seq notes n seed draw a e opened first scored is =
+    one-call seed draw (onStation e) (first-station seed draw a e opened first scored) ∙ ap (λ (s : Score). shown seed (tally seed draw (s ∷ []))) is
 
 -- ---- by which number a text is refused, and which listing it then has
 listed-by : (n : ℕ) (l : List ℕ) → 0 < n → printedR n ≡ unlessRefused n l

@@ -8,8 +8,9 @@ use crate::buffers::frames_buffer;
 use crate::buffers::string_buffer;
 use score::Seq;
 use session::Session;
+use session::StationAnswer;
 
-// Plays n frames from the session that `seed` and `draw` open, prints the listing at the start of
+// Plays n frames on station 0 of the session that `seed` and `draw` open, prints the listing at the start of
 // `page`, and gives its length.
 pub(crate) fn play_score(
     seq: Seq,
@@ -31,6 +32,7 @@ pub(crate) fn play_score(
     let out = &mut frames[..n];
     let answer = seq::render_seq(
         session,
+        0,
         seq,
         notes,
         &lane[..0],
@@ -38,5 +40,8 @@ pub(crate) fn play_score(
         &mut note_buf,
         &mut string,
     );
-    print_answer(page, answer, &frames[..n])
+    let after = answer.session;
+    let station = after.station(0);
+    let outcome = answer.outcome;
+    print_answer(page, StationAnswer { station, outcome }, &frames[..n])
 }

@@ -1,6 +1,6 @@
 -- Which file a text score has: of its one call by the theorem about lists of calls, and which of its cases a text is. Assumes nothing.
 use Prim.Native.Nat.{ℕ, zero, suc, _≤_, _<_}
-use mathlib.Core.Path.{_≡_, refl, sym, ap, _∙_, subst}
+use mathlib.Core.Path.{_≡_, refl, sym, ap, _∙_}
 use mathlib.Core.List.{List, [], _∷_}
 use mathlib.Core.Bool.{Bool, true, false, cond}
 use native.Mathlib.Omega.{arith}
@@ -8,10 +8,12 @@ use borrow.Author.Tests.{lt-ltb, le-ltb}
 use lib.ListN.{length}
 use Rattle.laws.proofs.If.{if-true, if-false}
 use Rattle.score.specs.Score.{Score}
-use Rattle.score_contract.specs.ScoreCall.{Event, Scored, scoreIn}
+use Rattle.score_contract.specs.ScoreCall.{scoreIn}
+use Rattle.score_contract.specs.SessionCall.{SessionEvent, SessionScored, onStation}
+use Rattle.score_contract.proofs.Stations.{first-station}
 use Rattle.session.specs.Opened.{sessionAt}
 use Rattle.score.specs.declared.seq.Seq.{Seq}
-use Rattle.session.specs.declared.Session.{Session}
+use Rattle.session.specs.declared.session.Session.{Session}
 use Rattle.tally.specs.Tally.{tally}
 use Rattle.tally.specs.Claim.{none, call, seenIn}
 use Rattle.tally.proofs.AllCalls.{all-calls}
@@ -46,12 +48,13 @@ pub filed-as : {r s : FileResult (List ℕ)} {file₀ file : List ℕ} {said : T
 filed-as e f = rw e at f
 
 -- ---- the one call
-pub played-by : (seq : Seq) (notes : List ℕ) (n seed draw room : ℕ) (a : Session) (e : Event) → a ≡ sessionAt seed draw → Scored a e → scoreIn e ≡ callOf seq notes n
-    → resultFile (seq .timing .rate) room (seenIn e) ≡ playedFile seq notes n seed draw room
+pub played-by : (seq : Seq) (notes : List ℕ) (n seed draw room : ℕ) (a : Session) (e : SessionEvent) → a ≡ sessionAt seed draw → e .station ≡ 0 → SessionScored a e
+    → scoreIn (onStation e) ≡ callOf seq notes n → resultFile (seq .timing .rate) room (seenIn (onStation e)) ≡ playedFile seq notes n seed draw room
 unfolding playedFile
-played-by seq notes n seed draw room a e opened scored is =
+played-by seq notes n seed draw room a e opened first scored is =
     let rate = seq .timing .rate in
-    let all = all-calls seed draw (e ∷ []) (e .answer .session) (call e (subst (λ (x : Session). Scored x e) opened scored) none) in
+    let one = onStation e in
+    let all = all-calls seed draw (one ∷ []) (one .answer .station) (call one (first-station seed draw a e opened first scored) none) in
     ap (oneFile rate room) (all .results) ∙ ap (λ (s : Score). oneFile rate room (tally seed draw (s ∷ []) .results)) is
 
 -- ---- by which number a text is refused, and which file it then has

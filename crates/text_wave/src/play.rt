@@ -36,7 +36,7 @@ fn write_answer(rate: u32, answer: Answer, frames: &[f32], file: &mut [u8]) -> T
     }
 }
 
-// Plays n frames from the session that `seed` and `draw` open, and writes them.
+// Plays n frames on station 0 of the session that `seed` and `draw` open, and writes them.
 pub(crate) fn play_file(
     seq: Seq,
     notes: &[u32],
@@ -56,6 +56,7 @@ pub(crate) fn play_file(
     let out = &mut frames[..n];
     let answer = seq::render_seq(
         session,
+        0,
         seq,
         notes,
         &lane[..0],

@@ -7,7 +7,7 @@ use Rattle.harness.proofs.notes.h_note.Statement.{statement}
 use Rattle.harness.proofs.notes.h_note.Tie as tie
 
 returns : tie.Need-returns
-returns c = not-called _ (sym (c .enum-told .given .1) ∙ c .before .before .voice-at .ensures) (none-holds _ refl refl refl refl refl)
+returns c = not-called _ (sym (c .enum-told .given .1) ∙ c .before .before .voice-at .ensures) (none-holds _ refl refl refl refl) refl
 
 returns-2 : tie.Need-returns-2
 returns-2 c =

@@ -1,43 +1,72 @@
 -- `harness::scores::h_score` meets its contract. Assumes nothing.
-use mathlib.Core.Path.{refl, sym, _∙_}
-use borrow.Author.Tests.{eq-eqb, ne-eqb}
+use Prim.Native.Nat.{_≤_}
+use mathlib.Core.Path.{_≡_, refl, sym, _∙_}
+use mathlib.Core.Bool.{true}
+use native.Mathlib.Omega.{arith}
+use lib.ListN.{length}
+use lib.Seq.{length-take-le, take-all}
+use borrow.Author.Tests.{not-true, not-false}
+use Rattle.harness.specs.Score.{wholeOf}
 use Rattle.harness.proofs.Ends.{none-holds}
-use Rattle.harness.proofs.ScoreEnds.{no-voice, no-envelope, no-points, call-holds}
+use Rattle.harness.proofs.ScoreEnds.{whole-eight, no-voice, no-envelope, not-whole, call-holds}
 use borrow.Author.Needs.{needs}
 use Rattle.harness.proofs.scores.h_score.Statement.{statement}
 use Rattle.harness.proofs.scores.h_score.Tie as tie
 
 returns : tie.Need-returns
-returns c = no-voice _ (sym (c .enum-told .given .1) ∙ c .before .before .voice-at .ensures) (none-holds _ refl refl refl refl refl) (refl, refl)
+returns c = no-voice _ (sym (c .enum-told .given .1) ∙ c .before .before .voice-at .ensures) (none-holds _ refl refl refl refl) (refl, refl)
 
 returns-2 : tie.Need-returns-2
 returns-2 c =
-    let b4 = c .before .before .before .before in
-    let voice = sym (b4 .voice .given .1) ∙ b4 .before .before .voice-at .ensures in
+    let voice = sym (c .before .before .before .before .voice .given .1) ∙ c .before .before .before .before .before .before .voice-at .ensures in
     let env = sym (c .enum-told2 .given .1) ∙ c .before .before .env-at .ensures in
-    no-envelope _ _ voice env (none-holds _ refl refl refl refl refl) (refl, refl)
+    no-envelope _ _ voice env (none-holds _ refl refl refl refl) (refl, refl)
 
 returns-3 : tie.Need-returns-3
 returns-3 c =
-    let b2 = c .before .before in
-    let b6 = b2 .before .before .before .before in
-    let voice = sym (b6 .voice .given .1) ∙ b6 .before .before .voice-at .ensures in
-    let env = sym (b2 .env .given .1) ∙ b2 .before .before .env-at .ensures in
-    no-points _ _ voice _ env (ne-eqb _ _ (c .if1 .taken)) (none-holds _ refl refl refl refl refl) (refl, refl)
+    let voice = sym (c .before .before .before .before .before .before .before .voice .given .1) ∙ c .before .before .before .before .before .before .before .before .before .voice-at .ensures in
+    let env = sym (c .before .before .before .env .given .1) ∙ c .before .before .before .before .before .env-at .ensures in
+    not-whole _ _ voice _ env (sym (c .before .whole .ensures) ∙ not-true _ (c .if1 .taken)) (none-holds _ refl refl refl refl) (refl, refl)
+
+-- what a call that is made has
+eights : (s : tie.Start) → wholeOf (length (s .args .seeds .now)) (length (s .args .counts .now)) (length (s .args .points .now)) ≡ true
+    → (length (s .args .seeds .now) ≡ 8) × (length (s .args .counts .now) ≡ 8)
+eights s all = whole-eight (length (s .args .seeds .now)) (length (s .args .counts .now)) (length (s .args .points .now)) all
+
+slice-reshare-prefix-held : tie.Need-slice-reshare-prefix-held
+slice-reshare-prefix-held c =
+    let all = sym (c .before .before .whole .ensures) ∙ not-false _ (c .before .if1 .left) in
+    let e = eights (c .before .before .before .before .before .before .before .before .before .before .before .before .before .before .before .before .before .before .before .before .before) all .1 in
+    omega (arith, e)
+
+slice-aggregate-held : tie.Need-slice-aggregate-held
+slice-aggregate-held c =
+    let all = sym (c .before .before .before .whole .ensures) ∙ not-false _ (c .before .before .if1 .left) in
+    let e = eights (c .before .before .before .before .before .before .before .before .before .before .before .before .before .before .before .before .before .before .before .before .before .before) all .1 in
+    sym (length-take-le 8 (c .before .before .before .before .before .before .before .before .before .before .before .before .before .before .before .before .before .before .before .before .before .before .args .counts .now) (let le : 8 ≤ length (c .before .before .before .before .before .before .before .before .before .before .before .before .before .before .before .before .before .before .before .before .before .before .args .counts .now) = omega (arith, e) in le))
+
+eight-requires : tie.Need-eight-requires
+eight-requires c κs = eights (c .before .before .before .before .before .before .before .before .before .before .before .before .before .before .before .before .before .before .before .before .before .before) (sym (c .before .before .before .whole .ensures) ∙ not-false _ (c .before .before .if1 .left)) .0
+
+eight-requires-2 : tie.Need-eight-requires-2
+eight-requires-2 c κs =
+    let all = sym (c .before .before .before .before .whole .ensures) ∙ not-false _ (c .before .before .before .if1 .left) in
+    let e = eights (c .before .before .before .before .before .before .before .before .before .before .before .before .before .before .before .before .before .before .before .before .before .before .before) all .1 in
+    length-take-le 8 (c .before .before .before .before .before .before .before .before .before .before .before .before .before .before .before .before .before .before .before .before .before .before .before .args .counts .now) (let le : 8 ≤ length (c .before .before .before .before .before .before .before .before .before .before .before .before .before .before .before .before .before .before .before .before .before .before .before .args .counts .now) = omega (arith, e) in le)
+
+put-count-requires : tie.Need-put-count-requires
+put-count-requires c κs = eights (c .before .before .before .before .before .before .before .before .before .before .before .before .before .before .before .before .before .before .before .before .before .before .before .before .before .before .before .before .before .before .before .before .before .before .before .before) (sym (c .before .before .before .before .before .before .before .before .before .before .before .before .before .before .before .before .before .whole .ensures) ∙ not-false _ (c .before .before .before .before .before .before .before .before .before .before .before .before .before .before .before .before .if1 .left)) .1
 
 returns-4 : tie.Need-returns-4
 returns-4 c =
-    let b10 = c .before .before .before .before .before .before .before .before .before .before in
-    let b10 = b10 in
-    let b17 = b10 .before .before .before .before .before .before .before in
-    let b18 = b17 .before in
-    let b20 = b18 .before .before in
-    let b24 = b20 .before .before .before .before in
-    let voice = sym (b24 .voice .given .1) ∙ b24 .before .before .voice-at .ensures in
-    let env = sym (b20 .env .given .1) ∙ b20 .before .before .env-at .ensures in
-    let call = rw (b17 .map-of .ensures) at (b10 .render-seq .ensures) in
-    call-holds _ _ voice _ _ _ env (eq-eqb _ _ (b18 .if1 .left))
-    (b10 .before .before .before .before .before .new .ensures) call (c .number-of .ensures) (c .before .draws-of .ensures) (c .before .before .state .ensures) refl
+    let a = c .before .before .before .before .before .before .before .before .before .before .before .before .before .before .before .before .before .before .before .before .before .before .before .before .before .before .before .before .before .before .before .before .before .before .before .before .before .before .before .before .before .args in
+    let voice = sym (c .before .before .before .before .before .before .before .before .before .before .before .before .before .before .before .before .before .before .before .before .before .before .before .before .before .before .before .before .voice .given .1) ∙ c .before .before .before .before .before .before .before .before .before .before .before .before .before .before .before .before .before .before .before .before .before .before .before .before .before .before .before .before .before .before .voice-at .ensures in
+    let env = sym (c .before .before .before .before .before .before .before .before .before .before .before .before .before .before .before .before .before .before .before .before .before .before .before .before .env .given .1) ∙ c .before .before .before .before .before .before .before .before .before .before .before .before .before .before .before .before .before .before .before .before .before .before .before .before .before .before .env-at .ensures in
+    let all = sym (c .before .before .before .before .before .before .before .before .before .before .before .before .before .before .before .before .before .before .before .before .before .before .whole .ensures) ∙ not-false _ (c .before .before .before .before .before .before .before .before .before .before .before .before .before .before .before .before .before .before .before .before .before .if1 .left) in
+    let e = eights (c .before .before .before .before .before .before .before .before .before .before .before .before .before .before .before .before .before .before .before .before .before .before .before .before .before .before .before .before .before .before .before .before .before .before .before .before .before .before .before .before .before) all .1 in
+    let held = c .before .before .before .before .before .before .before .before .before .before .before .before .before .before .before .before .before .eight2 .ensures ∙ take-all 8 (a .counts .now) (let le : length (a .counts .now) ≤ 8 = omega (arith, e) in le) in
+    let call = rw (c .before .before .before .before .before .before .before .before .before .before .before .before .before .before .before .before .before .before .before .before .map-of .ensures, c .before .before .before .before .before .before .before .before .before .before .before .before .before .before .before .before .before .before .eight .ensures, held) at (c .before .before .before .before .before .before .before .before .before .before .before .before .before .render-seq .ensures) in
+    call-holds _ _ voice _ _ env all call (c .number-of .ensures) (c .before .draws-of .ensures) (c .before .before .before .before .put-count .ensures)
 
 pub h-score-spec : {M : Type 1} → statement M
 h-score-spec =
@@ -51,13 +80,18 @@ h-score-spec =
     (λ c. search needs)
     (λ c. search needs)
     returns-2
+    (λ c κs. search needs)
     returns-3
     (λ c κs. search needs)
+    slice-reshare-prefix-held
+    slice-aggregate-held
+    eight-requires
+    eight-requires-2
+    (λ c κs. search needs)
+    put-count-requires
     (λ c κs. search needs)
     (λ c κs. search needs)
-    (λ c κs. search needs)
-    (λ c κs. search needs)
-    (λ c κs. search needs)
+    (λ c. search needs)
     (λ c. search needs)
     (λ c. search needs)
     (λ c. search needs)

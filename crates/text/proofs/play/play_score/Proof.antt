@@ -1,6 +1,6 @@
 -- `text::play::play_score` meets its contract. Assumes nothing.
 use Prim.Native.Nat.{_≤_}
-use mathlib.Core.Path.{_≡_, sym, ap, _∙_}
+use mathlib.Core.Path.{_≡_, refl, sym, ap, _∙_}
 use mathlib.Core.List.{[]}
 use native.Mathlib.Omega.{arith}
 use lib.ListN.{length, drop, length-append}
@@ -27,60 +27,46 @@ slice-aggregate-out c =
 
 array-share-prefix-frames : tie.Need-array-share-prefix-frames
 array-share-prefix-frames c =
-    let b4 = c .before .before .before .before in
-    let b12 = b4 .before .before .before .before .before .before .before .before in
-    let b15 = b12 .before .before .before in
-    let a = b15 .args in
-    let l = b12 .frames-buffer .result in
-    let fits : a .n ≤ length l = omega (arith, b12 .frames-buffer .ensures, b15 .pre .0) in
-    let v = b4 .render-seq in
-    let len : length (v .last .1 .1 .1 .1 .0) ≡ a .n = v .kept .1 .1 .1 .1 .0 ∙ length-take-le (a .n) l fits in
-    omega (arith, len, length-append (v .last .1 .1 .1 .1 .0) (drop (a .n) l))
+    let a = c .before .before .before .before .before .before .before .before .before .before .before .before .before .before .before .before .before .args in
+    let l = c .before .before .before .before .before .before .before .before .before .before .before .before .before .before .frames-buffer .result in
+    let fits : a .n ≤ length l = omega (arith, c .before .before .before .before .before .before .before .before .before .before .before .before .before .before .frames-buffer .ensures, c .before .before .before .before .before .before .before .before .before .before .before .before .before .before .before .before .before .pre .0) in
+    let v = c .before .before .before .before .before .before .render-seq in
+    let len : length (v .last .1 .1 .1 .1 .1 .0) ≡ a .n = v .kept .1 .1 .1 .1 .1 .0 ∙ length-take-le (a .n) l fits in
+    omega (arith, len, length-append (v .last .1 .1 .1 .1 .1 .0) (drop (a .n) l))
 
 slice-aggregate-print-answer : tie.Need-slice-aggregate-print-answer
 slice-aggregate-print-answer c =
-    let b5 = c .before .before .before .before .before in
-    let b13 = b5 .before .before .before .before .before .before .before .before in
-    let b16 = b13 .before .before .before in
-    let a = b16 .args in
-    let l = b13 .frames-buffer .result in
-    let fits : a .n ≤ length l = omega (arith, b13 .frames-buffer .ensures, b16 .pre .0) in
-    let v = b5 .render-seq in
-    let len : length (v .last .1 .1 .1 .1 .0) ≡ a .n = v .kept .1 .1 .1 .1 .0 ∙ length-take-le (a .n) l fits in
-    sym (ap length (take-at (v .last .1 .1 .1 .1 .0) (drop (a .n) l) (a .n) len) ∙ len)
+    let a = c .before .before .before .before .before .before .before .before .before .before .before .before .before .before .before .before .before .before .args in
+    let l = c .before .before .before .before .before .before .before .before .before .before .before .before .before .before .before .frames-buffer .result in
+    let fits : a .n ≤ length l = omega (arith, c .before .before .before .before .before .before .before .before .before .before .before .before .before .before .before .frames-buffer .ensures, c .before .before .before .before .before .before .before .before .before .before .before .before .before .before .before .before .before .before .pre .0) in
+    let v = c .before .before .before .before .before .before .before .render-seq in
+    let len : length (v .last .1 .1 .1 .1 .1 .0) ≡ a .n = v .kept .1 .1 .1 .1 .1 .0 ∙ length-take-le (a .n) l fits in
+    sym (ap length (take-at (v .last .1 .1 .1 .1 .1 .0) (drop (a .n) l) (a .n) len) ∙ len)
 
 print-answer-requires : tie.Need-print-answer-requires
 print-answer-requires c κs =
-    let b5 = c .before .before .before .before .before in
-    let b13 = b5 .before .before .before .before .before .before .before .before in
-    let b16 = b13 .before .before .before in
-    let a = b16 .args in
-    let l = b13 .frames-buffer .result in
-    let fits : a .n ≤ length l = omega (arith, b13 .frames-buffer .ensures, b16 .pre .0) in
-    let v = b5 .render-seq in
-    let len : length (v .last .1 .1 .1 .1 .0) ≡ a .n = v .kept .1 .1 .1 .1 .0 ∙ length-take-le (a .n) l fits in
-    let e = ap length (take-at (v .last .1 .1 .1 .1 .0) (drop (a .n) l) (a .n) len) ∙ len in
-    (omega (arith, e, b16 .pre .0), b16 .pre .1)
+    let a = c .before .before .before .before .before .before .before .before .before .before .before .before .before .before .before .before .before .before .args in
+    let l = c .before .before .before .before .before .before .before .before .before .before .before .before .before .before .before .frames-buffer .result in
+    let fits : a .n ≤ length l = omega (arith, c .before .before .before .before .before .before .before .before .before .before .before .before .before .before .before .frames-buffer .ensures, c .before .before .before .before .before .before .before .before .before .before .before .before .before .before .before .before .before .before .pre .0) in
+    let v = c .before .before .before .before .before .before .before .render-seq in
+    let len : length (v .last .1 .1 .1 .1 .1 .0) ≡ a .n = v .kept .1 .1 .1 .1 .1 .0 ∙ length-take-le (a .n) l fits in
+    let e = ap length (take-at (v .last .1 .1 .1 .1 .1 .0) (drop (a .n) l) (a .n) len) ∙ len in
+    (omega (arith, e, c .before .before .before .before .before .before .before .before .before .before .before .before .before .before .before .before .before .before .pre .0), c .before .before .before .before .before .before .before .before .before .before .before .before .before .before .before .before .before .before .pre .1)
 
 returns : tie.Need-returns
 returns c =
-    let b8 = c .before .before .before .before .before .before .before .before in
-    let b13 = b8 .before .before .before .before .before in
-    let b16 = b13 .before .before .before in
-    let b19 = b16 .before .before .before in
-    let a = b19 .args in
-    let l = b16 .frames-buffer .result in
-    let fits : a .n ≤ length l = omega (arith, b16 .frames-buffer .ensures, b19 .pre .0) in
-    let v = b8 .render-seq in
-    let len : length (v .last .1 .1 .1 .1 .0) ≡ a .n = v .kept .1 .1 .1 .1 .0 ∙ length-take-le (a .n) l fits in
-    let heard = take-at (v .last .1 .1 .1 .1 .0) (drop (a .n) l) (a .n) len in
-    let printed = rw heard at (c .before .before .print-answer .ensures) in
-    let room = sym (b13 .before .before .frames-buffer2 .ensures) in
-    let string = sym (b13 .before .string-buffer .ensures) in
+    let a = c .before .before .before .before .before .before .before .before .before .before .before .before .before .before .before .before .before .before .before .before .before .args in
+    let l = c .before .before .before .before .before .before .before .before .before .before .before .before .before .before .before .before .before .before .frames-buffer .result in
+    let fits : a .n ≤ length l = omega (arith, c .before .before .before .before .before .before .before .before .before .before .before .before .before .before .before .before .before .before .frames-buffer .ensures, c .before .before .before .before .before .before .before .before .before .before .before .before .before .before .before .before .before .before .before .before .before .pre .0) in
+    let v = c .before .before .before .before .before .before .before .before .before .before .render-seq in
+    let len : length (v .last .1 .1 .1 .1 .1 .0) ≡ a .n = v .kept .1 .1 .1 .1 .1 .0 ∙ length-take-le (a .n) l fits in
+    let heard = take-at (v .last .1 .1 .1 .1 .1 .0) (drop (a .n) l) (a .n) len in
+    let printed = rw (heard, c .before .before .before .before .before .station .ensures) at (c .before .before .print-answer .ensures) in
+    let room = sym (c .before .before .before .before .before .before .before .before .before .before .before .before .before .before .before .before .before .frames-buffer2 .ensures) in
+    let string = sym (c .before .before .before .before .before .before .before .before .before .before .before .before .before .before .before .before .string-buffer .ensures) in
     let n = length-take-le (a .n) l fits in
-    let opened = b13 .«open» .ensures in
     printed-as
-    (played-by (a .seq) (a .notes .now) (a .n) (a .seed) (a .draw) _ _ opened (v .ensures)
+    (played-by (a .seq) (a .notes .now) (a .n) (a .seed) (a .draw) _ _ (c .before .before .before .before .before .before .before .before .before .before .before .before .before .before .before .«open» .ensures) refl (v .ensures)
     (λ j. record { seq = a .seq; notes = a .notes .now; lane = []; n = n j; room = room j; string = string j }))
     printed
 
@@ -98,6 +84,7 @@ play-score-spec =
     (λ c. search needs)
     (λ c. search needs)
     (λ c. search needs)
+    (λ c κs. search needs)
     (λ c κs. search needs)
     array-share-prefix-frames
     slice-aggregate-print-answer

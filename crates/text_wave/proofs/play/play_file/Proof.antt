@@ -1,6 +1,6 @@
 -- `text_wave::play::play_file` meets its contract. Assumes nothing.
 use Prim.Native.Nat.{_≤_}
-use mathlib.Core.Path.{_≡_, sym, ap, _∙_}
+use mathlib.Core.Path.{_≡_, refl, sym, ap, _∙_}
 use mathlib.Core.List.{[]}
 use native.Mathlib.Omega.{arith}
 use lib.ListN.{length, drop, length-append}
@@ -33,8 +33,8 @@ array-share-prefix-frames c =
     let l = b12 .frames-buffer .result in
     let fits : a .n ≤ length l = omega (arith, b12 .frames-buffer .ensures, b15 .pre) in
     let v = b4 .render-seq in
-    let len : length (v .last .1 .1 .1 .1 .0) ≡ a .n = v .kept .1 .1 .1 .1 .0 ∙ length-take-le (a .n) l fits in
-    omega (arith, len, length-append (v .last .1 .1 .1 .1 .0) (drop (a .n) l))
+    let len : length (v .last .1 .1 .1 .1 .1 .0) ≡ a .n = v .kept .1 .1 .1 .1 .1 .0 ∙ length-take-le (a .n) l fits in
+    omega (arith, len, length-append (v .last .1 .1 .1 .1 .1 .0) (drop (a .n) l))
 
 slice-aggregate-write-answer : tie.Need-slice-aggregate-write-answer
 slice-aggregate-write-answer c =
@@ -45,8 +45,8 @@ slice-aggregate-write-answer c =
     let l = b13 .frames-buffer .result in
     let fits : a .n ≤ length l = omega (arith, b13 .frames-buffer .ensures, b16 .pre) in
     let v = b5 .render-seq in
-    let len : length (v .last .1 .1 .1 .1 .0) ≡ a .n = v .kept .1 .1 .1 .1 .0 ∙ length-take-le (a .n) l fits in
-    sym (ap length (take-at (v .last .1 .1 .1 .1 .0) (drop (a .n) l) (a .n) len) ∙ len)
+    let len : length (v .last .1 .1 .1 .1 .1 .0) ≡ a .n = v .kept .1 .1 .1 .1 .1 .0 ∙ length-take-le (a .n) l fits in
+    sym (ap length (take-at (v .last .1 .1 .1 .1 .1 .0) (drop (a .n) l) (a .n) len) ∙ len)
 
 write-answer-requires : tie.Need-write-answer-requires
 write-answer-requires c κs =
@@ -57,8 +57,8 @@ write-answer-requires c κs =
     let l = b14 .frames-buffer .result in
     let fits : a .n ≤ length l = omega (arith, b14 .frames-buffer .ensures, b17 .pre) in
     let v = b6 .render-seq in
-    let len : length (v .last .1 .1 .1 .1 .0) ≡ a .n = v .kept .1 .1 .1 .1 .0 ∙ length-take-le (a .n) l fits in
-    let e = ap length (take-at (v .last .1 .1 .1 .1 .0) (drop (a .n) l) (a .n) len) ∙ len in
+    let len : length (v .last .1 .1 .1 .1 .1 .0) ≡ a .n = v .kept .1 .1 .1 .1 .1 .0 ∙ length-take-le (a .n) l fits in
+    let e = ap length (take-at (v .last .1 .1 .1 .1 .1 .0) (drop (a .n) l) (a .n) len) ∙ len in
     omega (arith, e, b17 .pre)
 
 returns : tie.Need-returns
@@ -73,15 +73,15 @@ returns c =
     let l = b17 .frames-buffer .result in
     let fits : a .n ≤ length l = omega (arith, b17 .frames-buffer .ensures, b20 .pre) in
     let v = b9 .render-seq in
-    let len : length (v .last .1 .1 .1 .1 .0) ≡ a .n = v .kept .1 .1 .1 .1 .0 ∙ length-take-le (a .n) l fits in
-    let heard = take-at (v .last .1 .1 .1 .1 .0) (drop (a .n) l) (a .n) len in
+    let len : length (v .last .1 .1 .1 .1 .1 .0) ≡ a .n = v .kept .1 .1 .1 .1 .1 .0 ∙ length-take-le (a .n) l fits in
+    let heard = take-at (v .last .1 .1 .1 .1 .1 .0) (drop (a .n) l) (a .n) len in
     let filed = rw heard at (c .before .before .write-answer .ensures) in
     let room = sym (b16 .frames-buffer2 .ensures) in
     let string = sym (b15 .string-buffer .ensures) in
     let n = length-take-le (a .n) l fits in
     let opened = b14 .«open» .ensures in
     filed-as
-    (played-by (a .seq) (a .notes .now) (a .n) (a .seed) (a .draw) _ _ _ opened (v .ensures)
+    (played-by (a .seq) (a .notes .now) (a .n) (a .seed) (a .draw) _ _ _ opened refl (v .ensures)
     (λ j. record { seq = a .seq; notes = a .notes .now; lane = []; n = n j; room = room j; string = string j }))
     filed
 

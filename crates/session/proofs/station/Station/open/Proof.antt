@@ -1,7 +1,7 @@
--- `session::Session::open` meets its contract. Assumes nothing.
+-- `session::station::Station::open` meets its contract. Assumes nothing.
 use borrow.Author.Needs.{needs}
-use Rattle.session.proofs.Session.open.Statement.{statement}
-use Rattle.session.proofs.Session.open.Tie as tie
+use Rattle.session.proofs.station.Station.open.Statement.{statement}
+use Rattle.session.proofs.station.Station.open.Tie as tie
 
 returns : tie.Need-returns
 returns c = λ j. record { rng = record { 0 = c .at-draw .ensures j }; draw = c .before .args .draw }
