@@ -6,15 +6,22 @@ use Rattle.voice_organ.proofs.organ_at.Tie as tie
 frame-time-requires : tie.Need-frame-time-requires
 frame-time-requires c κs = c .pre
 
+-- the percussion's sine is computed before the bars
+fourth-sine-requires : tie.Need-fourth-sine-requires
+fourth-sine-requires c κs = c .before .before .before .before .before .before .before .before .before .sin .ensures
+
 returns : tie.Need-returns
 returns c =
-    organ-frame _ _ _ _
-    (c .before .before .before .before .before .before .before .before .frame-time .ensures)
-    (c .before .before .before .before .before .before .before .sin .ensures)
-    (c .before .before .before .before .before .before .sin2 .ensures)
-    (c .before .before .before .before .before .sin3 .ensures)
-    (c .before .before .before .before .sin4 .ensures)
-    (c .before .before .before .sin5 .ensures)
+    let b9 = c .before .before .before .before .before .before .before .before .before in
+    let b15 = b9 .before .before .before .before .before .before in
+    organ-frame _ _ _ _ _ _
+    (b15 .before .before .before .frame-time .ensures)
+    (b15 .before .before .sin .ensures)
+    (b15 .sin2 .ensures)
+    (b9 .before .before .before .sin3 .ensures)
+    (b9 .sin4 .ensures)
+    (c .before .before .before .before .before .before .before .fourth-sine .ensures)
+    (c .before .before .before .before .sin5 .ensures)
     (c .before .before .exp .ensures)
     (c .before .max-f32 .ensures)
     (c .wrap .ensures)
@@ -28,6 +35,7 @@ organ-at-spec =
     (λ c κs. tt)
     (λ c κs. tt)
     (λ c κs. tt)
+    fourth-sine-requires
     (λ c κs. tt)
     (λ c κs. tt)
     (λ c κs. tt)
