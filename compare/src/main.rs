@@ -8,10 +8,11 @@ mod board_vectors;
 mod boards;
 mod borders;
 mod cases;
+mod drawbars;
 mod dsp;
 mod engine;
-mod exponential;
 mod example;
+mod exponential;
 mod grid;
 mod groove_cases;
 mod groove_vectors;
@@ -87,6 +88,7 @@ const USAGE: &str =
        compare scores [COUNT]    COUNT score calls in lists, 10^6 by default
        compare mapped-scores [COUNT]  COUNT score calls with tempo maps in lists, 1.25 x 10^6 by default
        compare texts [COUNT]     COUNT text scores and damaged ones, 10^6 by default
+       compare drawbars [COUNT]  COUNT note calls of organs with drawbars, 10^6 by default, and a tenth as many texts
        compare boards [COUNT]    COUNT operations on a board in lists, 10^7 by default
        compare board-vectors     writes the replay files of crates/board_vectors
        compare wave-files [COUNT] COUNT WAVE files, most of them damaged, 10^6 by default
@@ -131,6 +133,8 @@ fn main() -> ExitCode {
         ["mapped-scores", count] => counted(count, mapped_calls::run),
         ["texts"] => status(texts::run(texts::COUNT)),
         ["texts", count] => counted(count, texts::run),
+        ["drawbars"] => status(drawbars::run(drawbars::COUNT)),
+        ["drawbars", count] => counted(count, drawbars::run),
         ["boards"] => status(boards::run(boards::COUNT)),
         ["boards", count] => counted(count, boards::run),
         ["board-vectors"] => written(board_vectors::run()),

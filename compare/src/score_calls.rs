@@ -65,6 +65,7 @@ impl Held {
 /// What a call is lent.
 struct Buffers {
     knobs: Lent<f32>,
+    bars: Lent<f32>,
     env: Lent<f32>,
     words: Lent<u32>,
     points: Lent<u32>,
@@ -78,6 +79,7 @@ impl Buffers {
     fn of(score: &Score) -> Buffers {
         Buffers {
             knobs: Lent::of(&score.knobs),
+            bars: Lent::of(&score.bars),
             env: Lent::of(&score.env),
             words: Lent::of(&score.words),
             points: Lent::of(&score.points),
@@ -102,6 +104,7 @@ impl Buffers {
             wave: score.wave,
             duty: score.duty,
             knobs: self.knobs.part(),
+            bars: self.bars.part(),
             env: self.env.part(),
             notes: self.words.part(),
             lane: self.lane.part(),
@@ -119,6 +122,7 @@ impl Buffers {
             ("note buffer", !self.note_buf.stays_but(free(score.out))),
             ("string", !self.string.stays_but(free(9600))),
             ("knobs", !self.knobs.stays()),
+            ("drawbars", !self.bars.stays()),
             ("envelope", !self.env.stays()),
             ("notes", !self.words.stays()),
             ("points", !self.points.stays()),

@@ -28,7 +28,7 @@ fn plain(words: &[u32]) -> String {
 
 fn line(score: &Score) -> String {
     format!(
-        "score {:x} {:08x} {:x} {:08x} {:08x} {:x} {:08x} {:x} {:x} {:x} {:x} {:x} {:x} {:x} {:x}{}{}{}{}{}",
+        "score {:x} {:08x} {:x} {:08x} {:08x} {:x} {:08x} {:x} {:x} {:x} {:x} {:x} {:x} {:x} {:x} {:x}{}{}{}{}{}{}",
         score.rate,
         score.tempo.to_bits(),
         score.steps_per_beat,
@@ -40,11 +40,13 @@ fn line(score: &Score) -> String {
         score.note_buf,
         score.string,
         score.knobs.len(),
+        score.bars.len(),
         score.env.len(),
         score.words.len(),
         score.lane.len(),
         score.points.len(),
         hex(&score.knobs),
+        hex(&score.bars),
         hex(&score.env),
         plain(&score.words),
         hex(&score.lane),

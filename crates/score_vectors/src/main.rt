@@ -2,7 +2,8 @@
 //   open SEED DRAW
 // which opens a session, or a call on it:
 //   score RATE TEMPO STEPS-PER-BEAT SWING HUMANIZE WAVE DUTY N NOTE-BUFFER STRING, then how many
-//   knobs, envelope numbers, note words, lane values and words of tempo points there are, and these
+//   knobs, numbers of drawbars, envelope numbers, note words, lane values and words of tempo points
+//   there are, and these
 // A session's state is appended, or a call's number, its draws, the session after it and the frames.
 ghost use Prim.Native.Nat.{_≤_};
 use dsl::Adsr;
@@ -64,25 +65,29 @@ fn point_words(line: &[u8], from: usize) -> [u32; 264]
 
 fn voice_of(line: &[u8]) -> VoiceAt {
     let count = vectors::length_field(line, 11, MOST);
-    let values = floats(line, 16);
-    harness_knobs::voice_at(vectors::u32_field(line, 6), &values[..count])
+    let bar_count = vectors::length_field(line, 12, MOST);
+    let wave = vectors::u32_field(line, 6);
+    let values = floats(line, 17);
+    let bars = floats(line, 17 + count);
+    harness_knobs::voice_at(wave, &values[..count], &bars[..bar_count])
 }
 
 fn env_of(line: &[u8]) -> EnvAt {
-    let from = 16 + vectors::length_field(line, 11, MOST);
-    let count = vectors::length_field(line, 12, MOST);
+    let from = 17 + vectors::length_field(line, 11, MOST) + vectors::length_field(line, 12, MOST);
+    let count = vectors::length_field(line, 13, MOST);
     let values = floats(line, from);
     harness_knobs::env_at(&values[..count])
 }
 
 // The points follow all other values.
 fn map_of(line: &[u8]) -> TempoMap {
-    let from = 16
+    let from = 17
         + vectors::length_field(line, 11, MOST)
         + vectors::length_field(line, 12, MOST)
         + vectors::length_field(line, 13, MOST)
-        + vectors::length_field(line, 14, MOST);
-    let count = vectors::length_field(line, 15, MOST_POINTS);
+        + vectors::length_field(line, 14, MOST)
+        + vectors::length_field(line, 15, MOST);
+    let count = vectors::length_field(line, 16, MOST_POINTS);
     let values = point_words(line, from);
     harness_map::map_of(&values[..count])
 }
@@ -162,13 +167,14 @@ fn call(line: &[u8], session: Session, seq: Seq, notes: &[u32], lane: &[f32]) ->
     after
 }
 
-// The session after the call with the line's notes and lane, which follow knobs and envelope.
+// The session after the call with the line's notes and lane, which follow knobs, drawbars and envelope.
 fn score(line: &[u8], session: Session, seq: Seq) -> Session {
-    let word_count = vectors::length_field(line, 13, MOST);
-    let lane_count = vectors::length_field(line, 14, MOST);
-    let words_at = 16
+    let word_count = vectors::length_field(line, 14, MOST);
+    let lane_count = vectors::length_field(line, 15, MOST);
+    let words_at = 17
         + vectors::length_field(line, 11, MOST)
-        + vectors::length_field(line, 12, MOST);
+        + vectors::length_field(line, 12, MOST)
+        + vectors::length_field(line, 13, MOST);
     let notes = words(line, words_at);
     let lane = floats(line, words_at + word_count);
     call(
@@ -196,7 +202,7 @@ fn score_line(line: &[u8], session: Session) -> Session {
     let EnvAt::Env(env) = env_of(line) else {
         return no_call(line, session);
     };
-    if vectors::u32_field(line, 15) % 4 != 0 {
+    if vectors::u32_field(line, 16) % 4 != 0 {
         return no_call(line, session);
     }
     score(line, session, seq_of(line, voice, env))

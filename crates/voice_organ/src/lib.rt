@@ -42,11 +42,12 @@ fn organ_at(bars: Drawbars, norm: f32, fi: f32, srf: f32, i: usize, phase: f32) 
     let t = osc::frame_time(i, srf);
     let turn = dsp::TAU * phase;
     let sixth = dsp::sin(turn * 6.0);
+    let fourth = fourth_sine(turn, bars.ratio4, sixth);
     let s = 0.0
         + bars.level1 * dsp::sin(turn * bars.ratio1)
         + bars.level2 * dsp::sin(turn * bars.ratio2)
         + bars.level3 * dsp::sin(turn * bars.ratio3)
-        + bars.level4 * fourth_sine(turn, bars.ratio4, sixth)
+        + bars.level4 * fourth
         + bars.level5 * dsp::sin(turn * bars.ratio5)
         + 0.5 * dsp::exp(-t / 0.2) * sixth;
     OrganOut {

@@ -13,9 +13,16 @@ returns c = if-true _ (eq-eqb _ _ (c .before .if1 .taken)) (c .bars .ensures)
 returns-2 : tie.Need-returns-2
 unfolding barsOf
 returns-2 c =
-    if-false _ (ne-eqb _ _ (c .before .before .before .before .before .before .before .before .before .before .if1 .left))
-    (rw (c .float-at10 .ensures, c .before .float-at9 .ensures, c .before .before .float-at8 .ensures, c .before .before .before .float-at7 .ensures, c .before .before .before .before .float-at6 .ensures)
-    (rw (c .before .before .before .before .before .float-at5 .ensures, c .before .before .before .before .before .before .float-at4 .ensures, c .before .before .before .before .before .before .before .float-at3 .ensures, c .before .before .before .before .before .before .before .before .float-at2 .ensures, c .before .before .before .before .before .before .before .before .before .float-at .ensures)))
+    let b4 = c .before .before .before .before in
+    let b5 = c .before .before .before .before .before in
+    let b6 = c .before .before .before .before .before .before in
+    let b7 = c .before .before .before .before .before .before .before in
+    let b8 = c .before .before .before .before .before .before .before .before in
+    let b9 = c .before .before .before .before .before .before .before .before .before in
+    let b10 = c .before .before .before .before .before .before .before .before .before .before in
+    if-false _ (ne-eqb _ _ (b10 .if1 .left))
+    (rw (c .float-at10 .ensures, c .before .float-at9 .ensures, c .before .before .float-at8 .ensures, c .before .before .before .float-at7 .ensures, b4 .float-at6 .ensures)
+    (rw (b5 .float-at5 .ensures, b6 .float-at4 .ensures, b7 .float-at3 .ensures, b8 .float-at2 .ensures, b9 .float-at .ensures)))
 
 pub bars-of-spec : {M : Type 1} → statement M
 bars-of-spec =

@@ -25,26 +25,49 @@ ending-requires c κs =
 
 returns-2 : tie.Need-returns-2
 returns-2 c =
-    let duty = rw (c .before .before .before .before .before .before .before .before .before .duty .given .1) at (c .before .before .before .before .before .before .before .before .before .before .before .field .ensures) in
-    sound-none (c .before .before .before .before .before .before .before .before .before .before .before .before .before .args .place) _ (c .before .before .before .before .before .before .knob-count .ensures) (c .before .before .before .before .before .before .before .before .before .before .before .before .before .args .wave) _ duty (c .before .before .before .before .before .before .before .ends .ensures) (rw (c .enum-told2 .given .1) at (c .before .before .before .ending .ensures .0))
+    let b6 = c .before .before .before .before .before .before in
+    let b7 = c .before .before .before .before .before .before .before in
+    let b9 = c .before .before .before .before .before .before .before .before .before in
+    let b11 = c .before .before .before .before .before .before .before .before .before .before .before in
+    let b13 = c .before .before .before .before .before .before .before .before .before .before .before .before .before in
+    let duty = rw (b9 .duty .given .1) at (b11 .field .ensures) in
+    sound-none (b13 .args .place) _ (b6 .knob-count .ensures) (b13 .args .wave) _ duty (b7 .ends .ensures) (rw (c .enum-told2 .given .1) at (c .before .before .before .ending .ensures .0))
 
 array-share-prefix-bits : tie.Need-array-share-prefix-bits
-array-share-prefix-bits c = bits-few (c .before .before .before .before .before .before .before .before .before .before .before .before .before .before .args .place) _ (c .before .before .before .before .before .before .before .knob-count .ensures) (c .before .before .before .before .ending .last .1 .1 .1 .0) (c .before .before .before .before .ending .kept .1 .1 .1 .0)
+array-share-prefix-bits c =
+    let b4 = c .before .before .before .before in
+    let b7 = c .before .before .before .before .before .before .before in
+    let b14 = c .before .before .before .before .before .before .before .before .before .before .before .before .before .before in
+    bits-few (b14 .args .place) _ (b7 .knob-count .ensures) (b4 .ending .last .1 .1 .1 .0) (b4 .ending .kept .1 .1 .1 .0)
 
 slice-aggregate-voice-of : tie.Need-slice-aggregate-voice-of
-slice-aggregate-voice-of c = bits-length (c .before .before .before .before .before .before .before .before .before .before .before .before .before .before .before .args .place) _ (c .before .before .before .before .before .before .before .before .knob-count .ensures) (c .before .before .before .before .before .ending .last .1 .1 .1 .0) (c .before .before .before .before .before .ending .kept .1 .1 .1 .0)
+slice-aggregate-voice-of c =
+    let b5 = c .before .before .before .before .before in
+    let b8 = c .before .before .before .before .before .before .before .before in
+    let b15 = c .before .before .before .before .before .before .before .before .before .before .before .before .before .before .before in
+    bits-length (b15 .args .place) _ (b8 .knob-count .ensures) (b5 .ending .last .1 .1 .1 .0) (b5 .ending .kept .1 .1 .1 .0)
 
 cast-f32-from-bits : tie.Need-cast-f32-from-bits
 cast-f32-from-bits c =
-    let h = field-small _ (c .before .before .before .before .before .before .before .before .before .before .before .before .before .before .before .before .args .at) (c .before .before .before .before .before .before .before .before .before .before .before .before .before .before .before .before .args .s .now) (c .before .before .before .before .before .before .before .before .before .before .before .before .duty .given .1) (c .before .before .before .before .before .before .before .before .before .before .before .before .before .before .field .ensures) in
+    let b12 = c .before .before .before .before .before .before .before .before .before .before .before .before in
+    let b14 = c .before .before .before .before .before .before .before .before .before .before .before .before .before .before in
+    let b16 = c .before .before .before .before .before .before .before .before .before .before .before .before .before .before .before .before in
+    let h = field-small _ (b16 .args .at) (b16 .args .s .now) (b12 .duty .given .1) (b14 .field .ensures) in
     omega arith
 
 returns-3 : tie.Need-returns-3
 returns-3 c =
-    let duty = rw (c .before .before .before .before .before .before .before .before .before .before .before .before .before .duty .given .1) at (c .before .before .before .before .before .before .before .before .before .before .before .before .before .before .before .field .ensures) in
-    let next = rw (c .before .before .before .before .next .given .1) at (c .before .before .before .before .before .before .before .ending .ensures .0) in
+    let b4 = c .before .before .before .before in
+    let b7 = c .before .before .before .before .before .before .before in
+    let b10 = c .before .before .before .before .before .before .before .before .before .before in
+    let b11 = c .before .before .before .before .before .before .before .before .before .before .before in
+    let b13 = c .before .before .before .before .before .before .before .before .before .before .before .before .before in
+    let b15 = c .before .before .before .before .before .before .before .before .before .before .before .before .before .before .before in
+    let b17 = c .before .before .before .before .before .before .before .before .before .before .before .before .before .before .before .before .before in
+    let duty = rw (b13 .duty .given .1) at (b15 .field .ensures) in
+    let next = rw (b4 .next .given .1) at (b7 .ending .ensures .0) in
     rw (c .f32-from-bits .ensures, c .before .voice-of .ensures)
-    (sound-read (c .before .before .before .before .before .before .before .before .before .before .before .before .before .before .before .before .before .args .place) _ (c .before .before .before .before .before .before .before .before .before .before .knob-count .ensures) (c .before .before .before .before .before .before .before .before .before .before .before .before .before .before .before .before .before .args .wave) _ duty (c .before .before .before .before .before .before .before .before .before .before .before .ends .ensures) (c .before .before .before .before .before .before .before .ending .last .1 .1 .1 .0) next)
+    (sound-read (b17 .args .place) _ (b10 .knob-count .ensures) (b17 .args .wave) _ duty (b11 .ends .ensures) (b7 .ending .last .1 .1 .1 .0) next)
 
 pub sound-of-spec : {M : Type 1} → statement M
 sound-of-spec =

@@ -8,19 +8,19 @@ frame-time-requires c κs = c .pre
 
 -- the percussion's sine is computed before the bars
 fourth-sine-requires : tie.Need-fourth-sine-requires
-fourth-sine-requires c κs = c .before .before .before .before .before .before .before .before .before .sin .ensures
+fourth-sine-requires c κs = c .sin .ensures
 
 returns : tie.Need-returns
 returns c =
-    let b9 = c .before .before .before .before .before .before .before .before .before in
-    let b15 = b9 .before .before .before .before .before .before in
+    let b8 = c .before .before .before .before .before .before .before .before in
+    let b16 = b8 .before .before .before .before .before .before .before .before in
     organ-frame _ _ _ _ _ _
-    (b15 .before .before .before .frame-time .ensures)
-    (b15 .before .before .sin .ensures)
-    (b15 .sin2 .ensures)
-    (b9 .before .before .before .sin3 .ensures)
-    (b9 .sin4 .ensures)
-    (c .before .before .before .before .before .before .before .fourth-sine .ensures)
+    (b16 .before .before .frame-time .ensures)
+    (b16 .before .sin .ensures)
+    (b8 .before .before .before .before .before .before .sin2 .ensures)
+    (b8 .before .before .before .sin3 .ensures)
+    (b8 .sin4 .ensures)
+    (b16 .fourth-sine .ensures)
     (c .before .before .before .before .sin5 .ensures)
     (c .before .before .exp .ensures)
     (c .before .max-f32 .ensures)
@@ -32,10 +32,10 @@ organ-at-spec =
     (tie.spec
     frame-time-requires
     (λ c κs. tt)
-    (λ c κs. tt)
-    (λ c κs. tt)
-    (λ c κs. tt)
     fourth-sine-requires
+    (λ c κs. tt)
+    (λ c κs. tt)
+    (λ c κs. tt)
     (λ c κs. tt)
     (λ c κs. tt)
     (λ c κs. tt)
