@@ -64,7 +64,7 @@ static inline const char *tono_reason(int number)
     case TONO_REFUSED_TEMPO: return "the tempo is not from 1 to 1,000 beats a minute";
     case TONO_REFUSED_STEPS_PER_BEAT: return "the steps per beat are not from 1 to 64";
     case TONO_REFUSED_GROOVE: return "swing or humanize is not from 0 to 1";
-    case TONO_REFUSED_KNOBS: return "a knob, the duty or an envelope number is not sized";
+    case TONO_REFUSED_KNOBS: return "a knob, a drawbar's number, the duty or an envelope number is not sized";
     case TONO_REFUSED_WORDS: return "the number of note words is not a multiple of five";
     case TONO_REFUSED_KIND: return "a note's kind is none of 0 (a number), 1 (a curve) and 2 (a quarter tone)";
     case TONO_REFUSED_PLACE: return "a note's step or length is above 1,048,575";

@@ -21,6 +21,8 @@ KNOBS = {
     "bass": "bass_cutoff bass_env bass_env_vel bass_decay bass_click bass_body bass_sub bass_sub_ratio bass_drive "
             "bass_body_decay".split(),
 }
+# the drawbars of an organ whose line V has none: ratio before level
+BARS = "3f800000 3ee66666 40000000 3f800000 40800000 3ee66666 40c00000 3e99999a 41000000 3e6147ae".split()
 # the gain of a line N that stops after the pitch: 0.5
 SHORT_GAIN = "3f000000"
 NAMES = "C C# D D# E F F# G G# A A# B".split()
@@ -44,6 +46,9 @@ class Score:
         self.place, self.duty = int(v[1]), v[2]
         self.wave = WAVES[self.place]
         self.knobs = list(zip(KNOBS.get(self.wave, []), v[3:]))
+        self.bars_written = self.wave == "organ" and len(v) > 3
+        bars = v[3:] if self.bars_written else BARS
+        self.bars = list(zip(bars[::2], bars[1::2])) if self.wave == "organ" else []
         self.notes = [Note(*row[1:]) for row in rows[4:]]
 
 

@@ -1,6 +1,7 @@
 // Copies the original's files out of $TONO_SRC; without it, from beside this repository. They stay as
 // they are, but that render/seq.rs gets one line at its end, which makes the shim a part of that
-// module. Of files that lean on others or on crates that are not there, items are taken by their text:
+// module. A second copy of render/seq.rs differs from it in one statement: the five pairs of `organ_note`
+// are replaced by those that a voice sets. The build stops where they do not stand there, word for word. Of files that lean on others or on crates that are not there, items are taken by their text:
 // `adsr` of render/mod.rs, the tempo map of dsl/mod.rs, and `Beat` of units.rs.
 use std::env;
 use std::fs;
@@ -33,6 +34,18 @@ const PARTS: [(&str, &str, &[&str]); 3] = [
         ],
     ),
 ];
+/// `organ_note`'s own pairs, as they stand in render/seq.rs, and what stands there in the second copy.
+const PAIRS: &str = "    const BARS: [(f32, f32); 5] = [
+        (1.0, 0.45),
+        (2.0, 1.0),
+        (4.0, 0.45),
+        (6.0, 0.3),
+        (8.0, 0.22),
+    ];
+";
+const SET_PAIRS: &str = "    #[allow(non_snake_case)]
+    let BARS: [(f32, f32); 5] = crate::voice::pairs();
+";
 /// Structs are copied as in the source; what they are to serde is left out.
 const DERIVED: &str = "#[derive(Clone, Copy, PartialEq)]\n";
 
@@ -50,16 +63,30 @@ fn main() {
         if file == "render/seq" {
             let shim = own.join("src/shim.rs");
             text += &format!("\n#[path = {shim:?}]\npub mod shim;\n");
+            put(&out, "render_seq_bars", &with_set_pairs(&text));
         }
         let name = file.replace('/', "_");
-        fs::write(out.join(format!("{name}.rs")), text).expect("OUT_DIR can be written");
+        put(&out, &name, &text);
     }
     for (part, file, items) in PARTS {
         let text = read(&source.join(format!("{file}.rs.txt")));
         let items: String = items.iter().map(|start| item(&text, start)).collect();
-        fs::write(out.join(format!("{part}.rs")), items).expect("the same");
+        put(&out, part, &items);
     }
-    fs::write(out.join("files.rs"), declarations(&out)).expect("the same");
+    put(&out, "bars", &format!("pub {}", PAIRS.trim_start()));
+    put(&out, "files", &declarations(&out));
+}
+
+fn put(out: &Path, name: &str, text: &str) {
+    fs::write(out.join(format!("{name}.rs")), text).expect("OUT_DIR can be written");
+}
+
+/// The text with the pairs of `organ_note` replaced, and nothing else.
+fn with_set_pairs(text: &str) -> String {
+    let organ = item(text, "fn organ_note(");
+    assert_eq!(organ.matches(PAIRS).count(), 1, "organ_note has other pairs");
+    assert_eq!(text.matches(PAIRS).count(), 1, "the pairs stand elsewhere too");
+    text.replace(PAIRS, SET_PAIRS)
 }
 
 /// The modules that are whole files, each at its place in the copy.
@@ -70,7 +97,7 @@ fn declarations(out: &Path) -> String {
         text += &format!("#[path = {file:?}]\npub mod {name};\n");
     }
     text += "pub mod render {\n    include!(concat!(env!(\"CARGO_MANIFEST_DIR\"), \"/src/render.rs\"));\n";
-    for name in ["kit", "osc", "seq"] {
+    for name in ["kit", "osc", "seq", "seq_bars"] {
         let file = out.join(format!("render_{name}.rs"));
         text += &format!("    #[path = {file:?}]\n    pub mod {name};\n");
     }

@@ -2,8 +2,8 @@
 
 use crate::engine::Count;
 use crate::{
-    boards, helpers, hop_calls, kernels, mapped_calls, note_calls, progress, random, score_calls,
-    station_calls, texts, tones, voices, wave_files,
+    boards, drawbars, helpers, hop_calls, kernels, mapped_calls, note_calls, progress, random,
+    score_calls, station_calls, texts, tones, voices, wave_files,
 };
 use std::process::{Command, Stdio};
 
@@ -14,7 +14,7 @@ const TEXTS: u64 = 1_000_000;
 /// One row of the table: what is compared, with what, and the run of one case in a number.
 type Part = (&'static str, &'static str, fn(u64) -> Count);
 
-const PARTS: [Part; 14] = [
+const PARTS: [Part; 15] = [
     ("float helpers", "Rust's operations", helpers::run),
     ("kernels", "det.rs and the request's words", |scale| {
         kernels::run_all(kernels::COUNT.div_ceil(scale), scale)
@@ -47,6 +47,11 @@ const PARTS: [Part; 14] = [
     ("text scores", "01's text call", |scale| {
         texts::run(texts::COUNT.div_ceil(scale))
     }),
+    (
+        "organs with drawbars",
+        "organ_note, its pairs replaced",
+        |scale| drawbars::run(drawbars::COUNT.div_ceil(scale)),
+    ),
     ("damaged texts from C", "01's text call", |scale| {
         damaged(&[], TEXTS.div_ceil(scale))
     }),

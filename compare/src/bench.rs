@@ -5,12 +5,13 @@ use crate::harness::{h_note, h_score, NoteArgs, ScoreArgs};
 use crate::hop_bench;
 use crate::mapped_bench;
 use crate::voice_vectors::USUAL;
-use crate::waves::{envelope, voice_of, WAVES};
+use crate::waves::{envelope, voice_of, BARS, WAVES};
 use std::hint::black_box;
 use std::time::Instant;
 use tono::dsl::{SeqNote, SeqWave, TempoPoint, Value};
 use tono::dsp::Rng;
-use tono::render::seq::shim::{note_signal, render, Voice};
+use tono::render::seq::shim::{note_signal, render};
+use tono::voice::Voice;
 
 /// One second.
 const RATE: u32 = 48_000;
@@ -93,6 +94,7 @@ impl Bench {
             rate: RATE,
             wave,
             knobs: &USUAL,
+            bars: &BARS,
             gain: GAIN,
             state: &mut 1,
             draws: &mut 0,
@@ -119,6 +121,7 @@ impl Bench {
             wave,
             duty: 0.5,
             knobs: &USUAL,
+            bars: &BARS,
             env: &ENVELOPE,
             notes: words,
             lane: &self.lane,
@@ -129,7 +132,7 @@ impl Bench {
     }
 
     pub fn their_note(&self, wave: SeqWave) -> Vec<f32> {
-        let voice = voice_of(wave, &USUAL);
+        let voice = voice_of(wave, &USUAL, &BARS);
         let mut rng = Rng::new(1);
         note_signal(&voice, GAIN, &self.pitch, &self.duty, RATE, &mut rng)
     }
@@ -147,7 +150,7 @@ pub fn their_score(wave: SeqWave, notes: &[SeqNote], frames: usize, timing: Timi
     let voice = Voice {
         duty: 0.5,
         env: envelope(ENVELOPE),
-        ..voice_of(wave, &USUAL)
+        ..voice_of(wave, &USUAL, &BARS)
     };
     render(
         &voice,

@@ -51,6 +51,7 @@ fn ours(score: &Score, lane: &[f32]) -> (u32, Vec<f32>) {
         wave: score.wave,
         duty: score.duty,
         knobs: &score.knobs,
+        bars: &score.bars,
         env: &score.env,
         notes: &score.words,
         lane,

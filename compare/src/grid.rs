@@ -4,10 +4,11 @@
 use crate::reference::ScoreCall;
 use crate::tempo_points::{points_of, Point};
 use crate::tones::quarter_tone;
-use crate::waves::voice_of;
+use crate::waves::{voice_of, BARS};
 use std::ops::Range;
 use tono::dsl::{SeqNote, SeqWave, TempoPoint, Value};
-use tono::render::seq::shim::{groove, groove_mapped, Voice};
+use tono::render::seq::shim::{groove, groove_mapped};
+use tono::voice::Voice;
 
 pub struct Grid {
     rate: u32,
@@ -28,7 +29,7 @@ impl Grid {
             voice: Voice {
                 swing: call.swing,
                 humanize: call.humanize,
-                ..voice_of(SeqWave::Sine, &[0.0; 22])
+                ..voice_of(SeqWave::Sine, &[0.0; 22], &BARS)
             },
             map: points_of(call.points).iter().map(Point::original).collect(),
             n: call.out,

@@ -104,11 +104,12 @@ fn outside() -> Vec<Score> {
 
 /// 35 with each fault that comes before it or after it, and what makes no call.
 fn orders() -> Vec<Score> {
-    let faults: [fn(&mut Score); 15] = [
+    let faults: [fn(&mut Score); 17] = [
         |s| s.rate = 7999,
         |s| s.tempo = 0.0,
         |s| s.steps_per_beat = 65,
         |s| s.points = vec![0; 4],
+        |s| s.points = vec![1, 0, 1, 500f32.to_bits()],
         |s| s.swing = ABOVE_1,
         |s| s.knobs[21] = f32::NAN,
         |s| s.note_buf = 39,
@@ -119,6 +120,7 @@ fn orders() -> Vec<Score> {
         |s| s.words[0] = 1_048_576,
         |s| s.words[4] = f32::NAN.to_bits(),
         |s| s.words.extend(tone(0, 1, 256, 0.5)),
+        |s| s.lane.clear(),
         |s| s.wave = 16,
     ];
     let mut scores = Vec::new();

@@ -5,6 +5,7 @@ use crate::score::Score;
 use crate::score_cases::{curve, note};
 use crate::tempo_points::{words_of, Point};
 use crate::voice_vectors::USUAL;
+use crate::waves::BARS;
 
 /// "n at most 16,777,216"
 const LONGEST: usize = 16_777_216;
@@ -30,6 +31,7 @@ pub fn longest() -> [Score; 2] {
         wave: 4,
         duty: 0.5,
         knobs: vec![0.5; 22],
+        bars: BARS.to_vec(),
         env: vec![0.0, 0.0, 1.0, 0.0, 0.0],
         words,
         lane: Vec::new(),
@@ -58,6 +60,7 @@ pub fn long(wave: u32) -> Score {
         wave,
         duty: 0.4,
         knobs: USUAL.to_vec(),
+        bars: BARS.to_vec(),
         env: vec![0.01, 0.1, 0.6, 0.2, 0.3],
         words: [all, glide, last].concat(),
         lane: (0..700_000).map(|i| 30.0 + i as f32 / 300.0).collect(),

@@ -8,6 +8,7 @@ mod board_vectors;
 mod boards;
 mod borders;
 mod cases;
+mod drawbars;
 mod dsp;
 mod engine;
 mod example;
@@ -97,6 +98,7 @@ const USAGE: &str =
        compare mapped-scores [COUNT [SEED]]  COUNT score calls with tempo maps in lists, 1.25 x 10^6 by default
        compare hops [COUNT [SEED]]  COUNT score calls at hops in lists, 1.5 x 10^6 by default
        compare stations [COUNT [SEED]]  COUNT score calls over stations in lists, 1.25 x 10^6 by default
+       compare drawbars [COUNT]  COUNT note calls of organs with drawbars, 10^6 by default, and a tenth as many texts
        compare far-lane          curves about place 2^32 of a lane of 16 GiB, most of which are not in memory; minutes
        compare texts [COUNT]     COUNT text scores and damaged ones, 10^6 by default
        compare boards [COUNT]    COUNT operations on a board in lists, 10^7 by default
@@ -150,6 +152,8 @@ fn main() -> ExitCode {
         ["stations"] => status(station_calls::run(station_calls::COUNT)),
         ["stations", count] => counted(count, station_calls::run),
         ["stations", count, seed] => counted_from(count, seed, station_calls::run),
+        ["drawbars"] => status(drawbars::run(drawbars::COUNT)),
+        ["drawbars", count] => counted(count, drawbars::run),
         ["far-lane"] => status(far_lane::run()),
         ["texts"] => status(texts::run(texts::COUNT)),
         ["texts", count] => counted(count, texts::run),

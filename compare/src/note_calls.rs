@@ -1,5 +1,6 @@
 //! Note calls of every outcome, through `h_note` and by the reference.
 
+use crate::drawbars::bar_kinds;
 use crate::engine::{threads, Count};
 use crate::harness::{h_note, NoteArgs};
 use crate::lent::{Lent, LentNumber};
@@ -7,7 +8,7 @@ use crate::progress::Progress;
 use crate::random::{state_at, Source};
 use crate::reference::{self, NoteCall};
 use crate::tried::{self, first_of, Tried};
-use crate::waves::WAVES;
+use crate::waves::{BARS, ORGAN, WAVES};
 
 /// How many calls are tried where no number is given.
 pub const COUNT: u64 = 1_000_000;
@@ -18,6 +19,7 @@ struct Case {
     rate: u32,
     wave: u32,
     knobs: Vec<f32>,
+    bars: Vec<f32>,
     gain: f32,
     state: u64,
     draws: u64,
@@ -30,6 +32,11 @@ struct Case {
 impl Case {
     fn random(seed: u64) -> Case {
         let mut s = Source::new(seed);
+        let wave = s.pick(&WAVES).0;
+        Case::of_wave(wave, &mut s)
+    }
+
+    fn of_wave(wave: u32, s: &mut Source) -> Case {
         let n = match s.below(8) {
             0 => 1,
             1 => 1 + s.below(1500),
@@ -37,8 +44,9 @@ impl Case {
         } as usize;
         let mut case = Case {
             rate: s.rate(),
-            wave: s.pick(&WAVES).0,
+            wave,
             knobs: s.knobs().to_vec(),
+            bars: s.bars().to_vec(),
             gain: s.sized(0.0, 1.0),
             state: s.number(),
             draws: s.number(),
@@ -49,7 +57,7 @@ impl Case {
         };
         let faults = s.pick(&[0, 0, 0, 1, 1, 2, 3]);
         for _ in 0..faults {
-            case.spoil(&mut s);
+            case.spoil(s);
         }
         if s.below(LONG) == 0 {
             case.out = 16_777_217;
@@ -59,7 +67,7 @@ impl Case {
 
     /// One fault of any kind.
     fn spoil(&mut self, s: &mut Source) {
-        match s.below(12) {
+        match s.below(14) {
             0 => self.rate = s.pick(&[0, 7999, 192_001, u32::MAX]),
             1 => s.spoil_one(&mut self.knobs),
             2 => self.string = s.pick(&[0, 1, 9599]),
@@ -75,6 +83,8 @@ impl Case {
             8 => self.out = s.pick(&[0, self.out + 1, self.out.saturating_sub(1)]),
             9 => self.duty.resize(s.pick(&[0, 1, self.out + 1]), 0.5),
             10 => self.wave = s.pick(&[16, 18, 19, 255, 65_536, u32::MAX]),
+            11 => s.spoil_one(&mut self.bars),
+            12 => self.bars.resize(s.pick(&[0, 1, 9, 11, 20]), 0.5),
             _ => self.knobs.resize(s.pick(&[0, 1, 21, 23, 44]), 0.5),
         }
     }
@@ -84,6 +94,7 @@ impl Case {
             rate: self.rate,
             wave: self.wave,
             knobs: &self.knobs,
+            bars: &self.bars,
             gain: self.gain,
             state: self.state,
             pitch: &self.pitch,
@@ -95,8 +106,9 @@ impl Case {
 
     /// The number that the reference gives, and what of the library's answer is another.
     fn tried(&self) -> (u32, Option<String>) {
-        let (knobs, pitch, duty) = (
+        let (knobs, bars, pitch, duty) = (
             Lent::of(&self.knobs),
+            Lent::of(&self.bars),
             Lent::of(&self.pitch),
             Lent::of(&self.duty),
         );
@@ -106,6 +118,7 @@ impl Case {
             rate: self.rate,
             wave: self.wave,
             knobs: knobs.part(),
+            bars: bars.part(),
             gain: self.gain,
             state: state.place(),
             draws: draws.place(),
@@ -125,9 +138,17 @@ impl Case {
             ("state", !state.holds(state_at(self.state, made))),
             ("output", !out.holds(frames)),
             ("string", !string.stays_but(free)),
-            ("input", !(knobs.stays() && pitch.stays() && duty.stays())),
+            ("knobs", !(knobs.stays() && bars.stays())),
+            ("input", !(pitch.stays() && duty.stays())),
         ]);
         (reference::number(&called), differs)
+    }
+
+    /// The number that the reference gives.
+    fn add_to(&self, name: &str, tried: &mut Tried) -> u32 {
+        let (number, differs) = self.tried();
+        tried.add(number, differs.map(|what| format!("{name}: {what}")));
+        number
     }
 }
 
@@ -135,7 +156,7 @@ impl Case {
 fn longest() -> Case {
     let mut case = Case::random(0);
     (case.rate, case.wave, case.gain) = (192_000, 4, 1.0);
-    (case.knobs, case.string) = (vec![0.5; 22], 9600);
+    (case.knobs, case.bars, case.string) = (vec![0.5; 22], BARS.to_vec(), 9600);
     (case.pitch, case.duty) = (vec![440.0; 16_777_216], vec![0.5; 16_777_216]);
     case.out = 16_777_216;
     case
@@ -144,8 +165,7 @@ fn longest() -> Case {
 fn share(first: u64, count: u64, progress: &Progress) -> Tried {
     let mut tried = Tried::default();
     let mut add = |name: String, case: Case| {
-        let (number, differs) = case.tried();
-        tried.add(number, differs.map(|what| format!("{name}: {what}")));
+        case.add_to(&name, &mut tried);
     };
     if first == 0 {
         add("the longest note".to_string(), longest());
@@ -161,5 +181,28 @@ fn share(first: u64, count: u64, progress: &Progress) -> Tried {
 pub fn run(count: u64) -> Count {
     tried::run("note calls", count, |thread, progress| {
         share(thread, count, progress)
+    })
+}
+
+/// Organs with drawbars of every kind.
+fn organ_share(first: u64, count: u64, progress: &Progress) -> Tried {
+    let mut tried = Tried::default();
+    for i in (first..count).step_by(threads()) {
+        let case = Case::of_wave(ORGAN, &mut Source::new(i));
+        let number = case.add_to(&format!("organ call {i}"), &mut tried);
+        if number == 0 {
+            for (kind, is) in bar_kinds(&case.bars) {
+                tried.mark_if(kind, is);
+            }
+        }
+        progress.add(1);
+    }
+    tried
+}
+
+/// Compares `count` calls of the organ.
+pub fn run_organ(count: u64) -> Count {
+    tried::run("note calls of the organ", count, |thread, progress| {
+        organ_share(thread, count, progress)
     })
 }

@@ -1,4 +1,4 @@
-//! What document 01, and 02 of tempo maps, of hops and of stations, ask of a note call and of a list of score calls, with
+//! What document 01, and 02 of tempo maps, of hops, of stations and of drawbars, ask of a note call and of a list of score calls, with
 //! the original's voices, groove and mix for the sound. Nothing here comes from the library. Words in quotes
 //! are theirs.
 
@@ -10,7 +10,7 @@ use crate::waves::{envelope, voice_of, wave_at};
 use std::iter::repeat_n;
 use tono::dsl::{SeqNote, SeqWave, TempoPoint, Value};
 use tono::dsp::Rng;
-use tono::render::seq::shim::{note_signal, render, Voice};
+use tono::voice::{note_signal, render, Voice};
 
 /// "n at most 16,777,216; 0 is accepted."
 const MOST_FRAMES: usize = 16_777_216;
@@ -20,8 +20,8 @@ const STRING: usize = 9600;
 const MOST_HOP: u32 = 4096;
 /// "eight headphone stations"
 pub const STATIONS: usize = 8;
-/// C's answer where no call is made: there are not 8 seeds and 8 counts, or not 22 knobs, or not 5 numbers of
-/// an envelope, or not four words for each tempo point, or the wave is not one of the 17.
+/// C's answer where no call is made: there are not 8 seeds and 8 counts, or not 22 knobs, or not 10 numbers of
+/// drawbars, or not 5 of an envelope, or not four words for each tempo point, or the wave is not one of the 17.
 pub const NO_CALL: u32 = u32::MAX;
 
 /// What a call comes to. "A refusal returns its number and 0 draws and changes nothing."
@@ -63,6 +63,7 @@ pub struct NoteCall<'a> {
     pub rate: u32,
     pub wave: u32,
     pub knobs: &'a [f32],
+    pub bars: &'a [f32],
     pub gain: f32,
     pub state: u64,
     pub pitch: &'a [f32],
@@ -73,22 +74,23 @@ pub struct NoteCall<'a> {
 
 pub fn note_call(call: &NoteCall) -> Called {
     let knobs = call.knobs.try_into().ok()?;
-    let wave = wave_at(call.wave)?;
+    let bars = call.bars.try_into().ok()?;
+    let voice = voice_of(wave_at(call.wave)?, knobs, bars);
     Some(match note_refusal(call) {
         Some(number) => Outcome::Refused(number),
-        None => note_played(call, wave, knobs),
+        None => note_played(call, &voice),
     })
 }
 
 /// "note call only, in the order 1, 2, 6, 21, 10, 13, 14: 10 gain, or a pitch or duty value, not
 /// sized; 13 pitch empty; 14 pitch, duty and output differ in length; 2 judges the output's length";
-/// 6 "in a note call: a knob only"
+/// 6 "in a note call: a knob only", and 02, Card 14: "ten sized numbers, judged by 6 as knobs are"
 fn note_refusal(call: &NoteCall) -> Option<u32> {
     let (pitch, duty) = (call.pitch, call.duty);
     first(&[
         (1, !is_rate(call.rate)),
         (2, call.out > MOST_FRAMES),
-        (6, !all_sized(call.knobs)),
+        (6, !all_sized(call.knobs) || !all_sized(call.bars)),
         (21, call.string < STRING),
         (
             10,
@@ -101,13 +103,10 @@ fn note_refusal(call: &NoteCall) -> Option<u32> {
 
 /// "An accepted note call reports e, demand 3's draws with every frame of its output sounded, and
 /// hands back its state + e × G modulo 2^64."
-fn note_played(call: &NoteCall, wave: SeqWave, knobs: &[f32; 22]) -> Outcome {
+fn note_played(call: &NoteCall, voice: &Voice) -> Outcome {
     let mut rng = Rng::new(call.state);
-    let voice = voice_of(wave, knobs);
-    let frames = note_signal(
-        &voice, call.gain, call.pitch, call.duty, call.rate, &mut rng,
-    );
-    let draws = draws_of(wave, call.rate, call.pitch[0], call.out);
+    let frames = note_signal(voice, call.gain, call.pitch, call.duty, call.rate, &mut rng);
+    let draws = draws_of(voice.wave, call.rate, call.pitch[0], call.out);
     moved(rng, call.state, draws);
     Outcome::Accepted { draws, frames }
 }
@@ -176,6 +175,7 @@ pub struct ScoreCall<'a> {
     pub wave: u32,
     pub duty: f32,
     pub knobs: &'a [f32],
+    pub bars: &'a [f32],
     pub env: &'a [f32],
     pub words: &'a [u32],
     pub lane: &'a [f32],
@@ -282,13 +282,14 @@ impl Session {
 }
 
 /// "1 rate; 2 n; 3 tempo; 4 steps per beat; 5 swing or humanize: outside the domain"; "6 a knob of any
-/// of the four sets .. the duty or an envelope number isn't sized"; "20 and 21 after 6"; "7 note words
+/// of the four sets .. the duty or an envelope number isn't sized", and the drawbars; "20 and 21 after 6"; "7 note words
 /// not a multiple of five"; "11 a lane value, used or not, isn't sized"; 31 and 32 "both after 4 and in
 /// that order"; "a hop outside 1 to 4,096 with 35, directly before 7". A NaN is in no range.
 fn score_refusal(call: &ScoreCall) -> Option<u32> {
     let part = 0.0..=1.0;
     let points = points_of(call.points);
-    let voiced = all_sized(call.knobs) && is_sized(call.duty) && all_sized(call.env);
+    let set = all_sized(call.knobs) && all_sized(call.bars);
+    let voiced = set && is_sized(call.duty) && all_sized(call.env);
     first(&[
         (1, !is_rate(call.rate)),
         (2, call.out > MOST_FRAMES),
@@ -342,6 +343,7 @@ pub fn place_read(w: &[u32], i: usize, hop: u32) -> u64 {
 /// The voice with the score's own settings; none where no call is made.
 fn score_voice(call: &ScoreCall) -> Option<Voice> {
     let knobs = call.knobs.try_into().ok()?;
+    let bars = call.bars.try_into().ok()?;
     let env = <[f32; 5]>::try_from(call.env).ok()?;
     let counted = [call.seeds, call.counts] == [STATIONS; 2] && call.points.len() % 4 == 0;
     let wave = wave_at(call.wave).filter(|_| counted)?;
@@ -350,7 +352,7 @@ fn score_voice(call: &ScoreCall) -> Option<Voice> {
         swing: call.swing,
         humanize: call.humanize,
         env: envelope(env),
-        ..voice_of(wave, knobs)
+        ..voice_of(wave, knobs, bars)
     })
 }
 

@@ -4,6 +4,7 @@ use crate::reference::STATIONS;
 use crate::score::Score;
 use crate::tones::TONES;
 use crate::voice_vectors::USUAL;
+use crate::waves::BARS;
 
 /// The next number above 65,536, and above 1,000, and above 1, and the one below 1.
 const ABOVE_65536: f32 = f32::from_bits(0x4780_0001);
@@ -50,6 +51,7 @@ pub fn usual() -> Score {
         wave: 0,
         duty: 0.4,
         knobs: USUAL.to_vec(),
+        bars: BARS.to_vec(),
         env: vec![0.0005, 0.0005, 0.7, 0.0005, 0.3],
         words: [note(0, 1, 440.0, 0.8), curve(1, 2, 1, 0.5)].concat(),
         lane: (0..16).map(|i| 200.0 + 10.0 * i as f32).collect(),
@@ -85,13 +87,16 @@ fn numbers() -> Vec<Score> {
     .concat()
 }
 
-/// 6, 10 and 11: a knob of each set, the duty, each number of the envelope, pitch, gain, lane.
+/// 6, 10 and 11: a knob of each set, each number of the drawbars, the duty, each number of the envelope, pitch, gain, lane.
 fn sizes() -> Vec<Score> {
     let knobs = [0, 3, 7, 12, 21];
     let knobs = knobs.map(|k| varied(&SIZES, |s, x| s.knobs[k] = x));
+    let bars = [0, 1, 2, 3, 4, 5, 6, 7, 8, 9];
+    let bars = bars.map(|k| varied(&SIZES, |s, x| s.bars[k] = x));
     let env = [0, 1, 2, 3, 4].map(|k| varied(&SIZES, |s, x| s.env[k] = x));
     [
         knobs.concat(),
+        bars.concat(),
         varied(&SIZES, |s, x| s.duty = x),
         env.concat(),
         varied(&SIZES, |s, x| s.words[3] = x.to_bits()),
@@ -130,6 +135,7 @@ fn lengths() -> Vec<Score> {
             s.words.clear();
         }),
         varied(&[21, 23], |s, x| s.knobs.resize(x, 0.5)),
+        varied(&[0, 9, 11], |s, x| s.bars.resize(x, 0.5)),
         varied(&[4, 6], |s, x| s.env.resize(x, 0.5)),
         varied(&[15, 16, 17, 18], |s, x| s.wave = x),
     ]

@@ -3,7 +3,7 @@
 use crate::grid::{bare, Grid};
 use crate::reference::all_sized;
 use crate::score::Score;
-use crate::waves::own_knobs;
+use crate::waves::{own_knobs, ORGAN};
 use std::ops::Range;
 
 /// What it is, and whether a score is of that kind.
@@ -72,10 +72,12 @@ impl Score {
         ]
     }
 
-    /// Of a score that is refused with 6: whether only a knob that the wave doesn't read is at fault.
+    /// Of a score that is refused with 6: whether only a knob or a drawbar that the wave doesn't read is at
+    /// fault.
     pub fn unread_knob(&self) -> bool {
         let own = own_knobs(self.wave);
-        all_sized(&self.knobs[own]) && all_sized(&self.env) && all_sized(&[self.duty])
+        let bars = self.wave != ORGAN || all_sized(&self.bars);
+        bars && all_sized(&self.knobs[own]) && all_sized(&self.env) && all_sized(&[self.duty])
     }
 }
 

@@ -70,6 +70,7 @@ impl Score {
             },
             duty: s.sized(0.0, 1.0),
             knobs: s.knobs().to_vec(),
+            bars: s.bars().to_vec(),
             env: (0..5).map(|_| s.sized(0.0, 0.02)).collect(),
             words: Vec::new(),
             lane: s.curve(lane, 20.0, 5000.0),
@@ -159,8 +160,9 @@ impl Score {
     }
 
     fn spoil_voice(&mut self, s: &mut Source) {
-        match s.below(5) {
+        match s.below(6) {
             0 => s.spoil_one(&mut self.knobs),
+            4 => s.spoil_one(&mut self.bars),
             1 => s.spoil_one(&mut self.env),
             2 => self.duty = s.not_sized(),
             3 => s.spoil_one(&mut self.lane),
@@ -187,11 +189,12 @@ impl Score {
     }
 
     fn spoil_lengths(&mut self, s: &mut Source) {
-        match s.below(5) {
+        match s.below(6) {
             0 => self.note_buf = s.pick(&[0, self.out.saturating_sub(1)]),
             1 => self.string = s.pick(&[0, 1, 9599]),
             2 => self.words.extend(vec![0; 1 + s.below(4) as usize]),
             3 => self.knobs.resize(s.pick(&[0, 21, 23, 44]), 0.5),
+            4 => self.bars.resize(s.pick(&[0, 1, 9, 11, 20]), 0.5),
             _ => self.env.resize(s.pick(&[0, 4, 6]), 0.5),
         }
     }

@@ -30,7 +30,7 @@ fn plain(words: &[u32]) -> String {
 
 fn line(score: &Score) -> String {
     format!(
-        "score {:x} {:08x} {:x} {:08x} {:08x} {:x} {:08x} {:x} {:x} {:x} {:x} {:x} {:x} {:x} {:x} {:x} {:x}{}{}{}{}{}",
+        "score {:x} {:08x} {:x} {:08x} {:08x} {:x} {:08x} {:x} {:x} {:x} {:x} {:x} {:x} {:x} {:x} {:x} {:x} {:x}{}{}{}{}{}{}",
         score.rate,
         score.tempo.to_bits(),
         score.steps_per_beat,
@@ -48,7 +48,9 @@ fn line(score: &Score) -> String {
         score.points.len(),
         score.hop,
         score.station,
+        score.bars.len(),
         hex(&score.knobs),
+        hex(&score.bars),
         hex(&score.env),
         plain(&score.words),
         hex(&score.lane),
@@ -136,14 +138,6 @@ pub fn run() -> io::Result<()> {
     replay.list(session, &hop_cases::list());
     for (session, scores) in station_cases::lists() {
         replay.list(session, &scores);
-    }
-    for (i, score) in hop_cases::edges().iter().enumerate() {
-        let mut tally = replay.open(i as u64, 7 * i as u64);
-        replay.score(&mut tally, score);
-    }
-    let mut tally = replay.open(0xfeed_beef_0000_0003, 3000);
-    for score in hop_cases::list() {
-        replay.score(&mut tally, &score);
     }
     let folder = Path::new(FOLDER);
     fs::create_dir_all(folder)?;

@@ -1,7 +1,8 @@
 //! A text score as lines of fields, so that each can be changed on its own.
 
+use crate::drawbars::is_bars;
 use crate::score::Score;
-use crate::waves::own_knobs;
+use crate::waves::{own_knobs, ORGAN};
 
 #[derive(Clone)]
 pub struct Text {
@@ -17,8 +18,8 @@ pub enum Kind {
 }
 
 impl Text {
-    /// A score call's text. Its knobs that the wave doesn't read are not written, and its pitches are
-    /// numbers.
+    /// A score call's text. Its knobs that the wave doesn't read are not written, nor drawbars that are
+    /// `BARS`, and its pitches are numbers.
     pub fn of(score: &Score, seed: u64, draw: u64) -> Text {
         let float = |x: &f32| format!("{:08x}", x.to_bits());
         let mut s = line("S", [score.rate.to_string(), score.out.to_string()]);
@@ -28,6 +29,9 @@ impl Text {
         let mut v = line("V", [score.wave.to_string(), float(&score.duty)]);
         let knobs = &score.knobs[own_knobs(score.wave)];
         v.extend(knobs.iter().map(|x| float(x).into()));
+        if score.wave == ORGAN && !is_bars(&score.bars) {
+            v.extend(score.bars.iter().map(|x| float(x).into()));
+        }
         let g = line("G", [format!("{seed:016x}"), draw.to_string()]);
         let e = line("E", score.env.iter().map(float));
         let mut lines = vec![s, g, e, v];

@@ -1,6 +1,7 @@
 //! The text scores of crates/replay: each form broken in each way, each limit on both sides, two
 //! faults at once, the waves, and the last draws. A case has a name of one word.
 
+use crate::drawbars::REGISTRATIONS;
 use crate::reference::STATIONS;
 use crate::score::Score;
 use crate::score_cases::note;
@@ -8,7 +9,7 @@ use crate::text::{Kind, Text};
 use crate::text_random::padded;
 use crate::text_reference::{listing, MOST_BYTES};
 use crate::voice_vectors::USUAL;
-use crate::waves::WAVES;
+use crate::waves::{BARS, ORGAN, WAVES};
 
 #[derive(Clone)]
 pub struct Case {
@@ -42,6 +43,7 @@ fn usual(wave: u32) -> Score {
         wave,
         duty: 0.4,
         knobs: USUAL.to_vec(),
+        bars: BARS.to_vec(),
         env: vec![0.0005, 0.0005, 0.7, 0.0005, 0.3],
         words: notes.concat(),
         lane: Vec::new(),
@@ -267,6 +269,44 @@ fn knobs() -> Vec<Case> {
     cases
 }
 
+/// The organ's V line with so many numbers of drawbars, with each registration, with the ten of `BARS`
+/// written out, and with each number at each limit of what is sized.
+fn drawbars() -> Vec<Case> {
+    let organ = |bars: &[f32]| {
+        let mut text = text_of(&usual(ORGAN));
+        let written = bars.iter().map(|x| format!("{:08x}", x.to_bits()).into());
+        text.lines[3].truncate(3);
+        text.lines[3].extend(written);
+        text
+    };
+    let many = REGISTRATIONS[0].repeat(3);
+    let mut cases: Vec<Case> = (0..=21)
+        .map(|count| {
+            case(
+                format!("organ-{count}-numbers"),
+                organ(&many[..count]).bytes(),
+            )
+        })
+        .collect();
+    cases.push(case("organ-BARS-written", organ(&BARS).bytes()));
+    for (i, bars) in REGISTRATIONS.iter().enumerate() {
+        cases.push(case(format!("organ-registration-{i}"), organ(bars).bytes()));
+    }
+    for field in 3..13 {
+        for value in [
+            "47800000", "c7800000", "47800001", "c7800001", "7f800000", "7fc00000",
+        ] {
+            let mut text = organ(&BARS);
+            text.set(3, field, value);
+            cases.push(case(format!("organ-V.{field}={value}"), text.bytes()));
+        }
+        let mut text = organ(&BARS);
+        text.set(3, field, "3F800000");
+        cases.push(case(format!("organ-V.{field}-uppercase"), text.bytes()));
+    }
+    cases
+}
+
 /// Each wave by a few short notes.
 pub fn waves() -> Vec<Case> {
     let of = |w: &(u32, &str, _)| case(w.1, text_of(&usual(w.0)).bytes());
@@ -388,7 +428,7 @@ pub fn others() -> Vec<Case> {
     for more in [limits(), lines(), wholes(), knobs(), long_waves()] {
         cases.extend(more);
     }
-    for more in [held_waves(), last_draws(), sizes(), orders()] {
+    for more in [held_waves(), last_draws(), sizes(), orders(), drawbars()] {
         cases.extend(more);
     }
     cases

@@ -1,16 +1,35 @@
 //! Text scores to try: good ones, and damaged copies of them.
 
+use crate::drawbars::is_bars;
 use crate::random::Source;
 use crate::score::Score;
 use crate::text::{Kind, Text};
 use crate::text_damage::{replace_byte, BYTES, LINES};
 use crate::text_reference::{listing, MOST_BYTES};
+use crate::waves::{BARS, ORGAN};
 
 impl Text {
     /// A score of the domain. Most are short; a few have as many frames or notes as a text may have,
     /// or one more.
     pub fn random(s: &mut Source) -> Text {
+        let score = Score::played(s);
+        Text::of_random(score, s)
+    }
+
+    /// A score of the organ; the ten numbers of `BARS` are written out in some.
+    fn organ(s: &mut Source) -> Text {
         let mut score = Score::played(s);
+        score.wave = ORGAN;
+        let own = is_bars(&score.bars) && s.below(2) == 0;
+        let mut text = Text::of_random(score, s);
+        if own {
+            let written = BARS.map(|x| format!("{:08x}", x.to_bits()).into());
+            text.lines[3].extend(written);
+        }
+        text
+    }
+
+    fn of_random(mut score: Score, s: &mut Source) -> Text {
         score.lane.clear();
         if s.below(100) == 0 {
             score.out = s.pick(&[2047, 2048, 2048, 2049]);
@@ -63,7 +82,25 @@ impl Text {
 
 /// A good score, or a copy of one with something wrong.
 pub fn text(s: &mut Source) -> Vec<u8> {
-    let mut text = Text::random(s);
+    let text = Text::random(s);
+    good_or_not(text, s)
+}
+
+/// The same of an organ, of which half are good, and some have another count of numbers.
+pub fn organ_text(s: &mut Source) -> Vec<u8> {
+    let mut text = Text::organ(s);
+    match s.below(8) {
+        0..4 => text.bytes(),
+        4 => {
+            let count = s.below(24) as usize;
+            text.lines[3].resize(3 + count, b"3f000000".into());
+            text.bytes()
+        }
+        _ => good_or_not(text, s),
+    }
+}
+
+fn good_or_not(mut text: Text, s: &mut Source) -> Vec<u8> {
     if s.below(8) == 0 {
         text.near_the_end(s);
     }

@@ -5,7 +5,7 @@
 use crate::reference::{Outcome, Session, STATIONS};
 use crate::score::Score;
 use crate::vectors::pattern;
-use crate::waves::{own_knobs, wave_at};
+use crate::waves::{own_knobs, wave_at, BARS, ORGAN};
 use std::fmt::Write as _;
 use std::str::FromStr;
 
@@ -126,6 +126,7 @@ fn read(text: &[u8]) -> Option<TextScore> {
             wave: voice.wave,
             duty: voice.duty,
             knobs: voice.knobs,
+            bars: voice.bars,
             env: env.map(float).into_iter().collect::<Option<_>>()?,
             words,
             // "Text pitches are numbers, never curves."
@@ -141,25 +142,44 @@ struct Voice {
     wave: u32,
     duty: f32,
     knobs: Vec<f32>,
+    bars: Vec<f32>,
 }
 
 /// "V wave duty knobs (wave is the place in `SeqWave` from 0, knobs in node.rs order, none for waves
-/// that have none; knobs of the sets not written are 0; 16 and above 17 break the form)"
+/// that have none; knobs of the sets not written are 0; 16 and above 17 break the form)"; and 02, Card 14, of
+/// the organ's drawbars: "after duty on the V line, ratio before level .. A V line without the ten uses the
+/// five pairs of `BARS`"
 fn line_v(line: &[&[u8]]) -> Option<Voice> {
     let (first, written) = line.split_at_checked(3)?;
     let [wave, duty] = after(b"V", first)?;
     let wave = decimal(wave)?;
     wave_at(wave)?;
+    let duty = float(duty)?;
+    let set = written.iter().map(|field| float(field));
+    if wave == ORGAN && written.len() == 10 {
+        let (knobs, bars) = (vec![0.0; 22], set.collect::<Option<_>>()?);
+        return Some(Voice {
+            wave,
+            duty,
+            knobs,
+            bars,
+        });
+    }
     let own = own_knobs(wave);
     if written.len() != own.len() {
         return None;
     }
     let mut knobs = vec![0.0; 22];
-    for (knob, field) in knobs[own].iter_mut().zip(written) {
-        *knob = float(field)?;
+    for (knob, value) in knobs[own].iter_mut().zip(set) {
+        *knob = value?;
     }
-    let duty = float(duty)?;
-    Some(Voice { wave, duty, knobs })
+    let bars = BARS.to_vec();
+    Some(Voice {
+        wave,
+        duty,
+        knobs,
+        bars,
+    })
 }
 
 /// "N step len pitch gain .. each of which may stop after pitch", and 02, Card 5: "A line N that stops after

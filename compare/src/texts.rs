@@ -5,7 +5,7 @@ use crate::harness::tono_play;
 use crate::lent::Lent;
 use crate::progress::Progress;
 use crate::random::Source;
-use crate::text_random::text;
+use crate::text_random::{organ_text, text};
 use crate::text_reference::{c_call, listing, Listing, MOST_BYTES};
 use crate::tried::{self, first_of, Tried};
 use std::fs;
@@ -74,7 +74,15 @@ fn short_gain(text: &[u8]) -> bool {
     text.split(|&b| b == b'\n').any(short)
 }
 
-fn kinds(text: &[u8], asked: &Listing) -> [(&'static str, bool); 8] {
+/// Whether the V line is an organ's, with so many numbers after its duty.
+fn organ_with(text: &[u8], count: usize) -> bool {
+    let is = |line: &[u8]| {
+        line.starts_with(b"V\t9\t") && line.split(|&b| b == b'\t').count() == 3 + count
+    };
+    text.split(|&b| b == b'\n').any(is)
+}
+
+fn kinds(text: &[u8], asked: &Listing) -> [(&'static str, bool); 11] {
     let (number, bytes) = (asked.number, text.len());
     let frames = || asked.bytes.iter().filter(|&&b| b == b'F').count();
     let notes = || text.windows(2).filter(|w| w == b"\nN").count();
@@ -103,6 +111,18 @@ fn kinds(text: &[u8], asked: &Listing) -> [(&'static str, bool); 8] {
             "accepted and at draw 2^64 - 1 after it",
             number == 0 && asked.draw == u64::MAX,
         ),
+        (
+            "accepted with an organ without drawbars",
+            number == 0 && organ_with(text, 0),
+        ),
+        (
+            "accepted with an organ with drawbars",
+            number == 0 && organ_with(text, 10),
+        ),
+        (
+            "an organ with nine or eleven numbers, refused with 15",
+            number == 15 && (organ_with(text, 9) || organ_with(text, 11)),
+        ),
     ]
 }
 
@@ -123,7 +143,7 @@ fn try_examples(tried: &mut Tried) {
     }
 }
 
-fn share(first: u64, count: u64, progress: &Progress) -> Tried {
+fn share(first: u64, count: u64, text: fn(&mut Source) -> Vec<u8>, progress: &Progress) -> Tried {
     let mut tried = Tried::default();
     if first == 0 {
         try_examples(&mut tried);
@@ -140,6 +160,13 @@ fn share(first: u64, count: u64, progress: &Progress) -> Tried {
 /// Compares `count` texts.
 pub fn run(count: u64) -> Count {
     tried::run("texts", count, |thread, progress| {
-        share(thread, count, progress)
+        share(thread, count, text, progress)
+    })
+}
+
+/// Compares `count` texts of the organ.
+pub fn run_organ(count: u64) -> Count {
+    tried::run("texts of the organ", count, |thread, progress| {
+        share(thread, count, organ_text, progress)
     })
 }

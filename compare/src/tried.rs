@@ -35,6 +35,12 @@ impl Tried {
         *self.marked.entry(kind).or_default() += 1;
     }
 
+    pub fn mark_if(&mut self, kind: &'static str, is: bool) {
+        if is {
+            self.mark(kind);
+        }
+    }
+
     /// Whether one more call of this wave is of a kind; the fewest calls of any wave are worth a line.
     pub fn mark_wave(&mut self, wave: u32, kind: &'static str, is: bool) {
         self.by_wave.entry(kind).or_default()[wave as usize] += is as u64;

@@ -1,9 +1,10 @@
 //! The replay files of crates/voice_vectors: notes of every wave, with the original's samples.
 
+use crate::drawbars::REGISTRATIONS;
 use crate::random::{draw, draw_at, state_at};
 use crate::vectors::pattern;
 use crate::voices::Note;
-use crate::waves::WAVES;
+use crate::waves::{BARS, ORGAN, WAVES};
 use std::fs;
 use std::io;
 use std::path::Path;
@@ -27,6 +28,7 @@ struct Case {
     pitch: Vec<f32>,
     duty: Vec<f32>,
     knobs: [f32; 22],
+    bars: [f32; 10],
 }
 
 impl Case {
@@ -38,11 +40,17 @@ impl Case {
             pitch: pitch.to_vec(),
             duty: vec![0.5; pitch.len()],
             knobs: USUAL,
+            bars: BARS,
         }
     }
 
     fn knobs(mut self, every: f32) -> Case {
         self.knobs = [every; 22];
+        self
+    }
+
+    fn bars(mut self, bars: [f32; 10]) -> Case {
+        self.bars = bars;
         self
     }
 
@@ -72,6 +80,12 @@ fn cases() -> Vec<Case> {
     ]
 }
 
+/// The organ with each registration, over frames in which the phase turns over.
+fn registrations() -> Vec<Case> {
+    let of = |bars: &[f32; 10]| Case::usual(8000, 0.8, 40, &[440.0]).bars(*bars);
+    REGISTRATIONS.iter().map(of).collect()
+}
+
 /// Patterns, each after a space.
 pub fn hex(values: &[f32]) -> String {
     values
@@ -96,6 +110,7 @@ fn answer(case: &Case, place: u32, wave: SeqWave, state: u64) -> (String, String
         rate: case.rate,
         gain: case.gain,
         knobs: case.knobs,
+        bars: case.bars,
         state,
         pitch: prolonged(&case.pitch, case.frames),
         duty: prolonged(&case.duty, case.frames),
@@ -104,14 +119,15 @@ fn answer(case: &Case, place: u32, wave: SeqWave, state: u64) -> (String, String
     let draws = (0..20_000).find(|&c| draw(state_at(state, c)) == next);
     let after = state_at(state, draws.expect("a note draws less"));
     let line = format!(
-        "note {place:08x} {:08x} {:08x} {state:016x} {:04x} {:04x}{}{}{}",
+        "note {place:08x} {:08x} {:08x} {state:016x} {:04x} {:04x}{}{}{}{}",
         case.rate,
         case.gain.to_bits(),
         case.frames,
         case.pitch.len(),
         hex(&case.pitch),
         hex(&case.duty),
-        hex(&case.knobs)
+        hex(&case.knobs),
+        hex(&case.bars)
     );
     let samples: String = samples.into_iter().map(sample).collect();
     (line, format!("{samples} {after:016x}"))
@@ -121,7 +137,11 @@ fn answer(case: &Case, place: u32, wave: SeqWave, state: u64) -> (String, String
 pub fn run() -> io::Result<()> {
     let (mut stdin, mut stdout) = (String::new(), String::new());
     for (place, _, wave) in WAVES {
-        for (i, case) in cases().iter().enumerate() {
+        let mut cases = cases();
+        if place == ORGAN {
+            cases.extend(registrations());
+        }
+        for (i, case) in cases.iter().enumerate() {
             let state = draw_at(7, (place as u64) * 100 + i as u64);
             let (line, answer) = answer(case, place, wave, state);
             stdin += &format!("{line}\n");

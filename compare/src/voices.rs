@@ -8,7 +8,7 @@ use crate::waves::{voice_of, WAVES};
 use std::time::Instant;
 use tono::dsl::SeqWave;
 use tono::dsp::Rng;
-use tono::render::seq::shim::note_signal;
+use tono::voice::note_signal;
 
 /// How many notes of each wave are tried where no number is given.
 pub const COUNT: u64 = 100_000;
@@ -18,6 +18,7 @@ pub struct Note {
     pub rate: u32,
     pub gain: f32,
     pub knobs: [f32; 22],
+    pub bars: [f32; 10],
     pub state: u64,
     pub pitch: Vec<f32>,
     pub duty: Vec<f32>,
@@ -35,6 +36,7 @@ impl Note {
         Note {
             rate,
             knobs: s.knobs(),
+            bars: s.bars(),
             gain: s.sized(0.0, 1.0),
             state: s.number(),
             pitch: s.curve(n, 20.0, 5000.0),
@@ -50,6 +52,7 @@ impl Note {
             rate: self.rate,
             wave: place,
             knobs: &self.knobs,
+            bars: &self.bars,
             gain: self.gain,
             state: &mut state,
             draws: &mut draws,
@@ -64,7 +67,7 @@ impl Note {
     /// The original's.
     pub fn theirs(&self, wave: SeqWave) -> (Vec<f32>, u64) {
         let mut rng = Rng::new(self.state);
-        let voice = voice_of(wave, &self.knobs);
+        let voice = voice_of(wave, &self.knobs, &self.bars);
         let out = note_signal(
             &voice,
             self.gain,

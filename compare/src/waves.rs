@@ -1,8 +1,8 @@
-//! The waves by their places, and a voice of the original's from 22 knobs.
+//! The waves by their places, and a voice of the original's from 22 knobs and 10 numbers of drawbars.
 
 use std::ops::Range;
 use tono::dsl::{Adsr, BassKnobs, FmKnobs, PianoKnobs, PluckKnobs, SeqWave};
-use tono::render::seq::shim::Voice;
+use tono::voice::{Pairs, Voice, BARS as PAIRS};
 
 /// Each wave with its place in the source's order.
 pub const WAVES: [(u32, &str, SeqWave); 17] = [
@@ -25,6 +25,15 @@ pub const WAVES: [(u32, &str, SeqWave); 17] = [
     (17, "cowbell", SeqWave::Cowbell),
 ];
 
+/// The organ's place.
+pub const ORGAN: u32 = 9;
+
+/// The original's own drawbars, ratio before level.
+pub const BARS: [f32; 10] = {
+    let [a, b, c, d, e] = PAIRS;
+    [a.0, a.1, b.0, b.1, c.0, c.1, d.0, d.1, e.0, e.1]
+};
+
 /// The wave at a place; none at 16 and above 17.
 pub fn wave_at(place: u32) -> Option<SeqWave> {
     let found = WAVES.iter().find(|w| w.0 == place);
@@ -42,8 +51,8 @@ pub fn own_knobs(wave: u32) -> Range<usize> {
     }
 }
 
-/// A voice for a note alone: knobs in node.rs's order, fm, pluck, piano, bass.
-pub fn voice_of(wave: SeqWave, k: &[f32; 22]) -> Voice {
+/// A voice for a note alone: knobs in node.rs's order, fm, pluck, piano, bass; drawbars ratio before level.
+pub fn voice_of(wave: SeqWave, k: &[f32; 22], bars: &[f32; 10]) -> Voice {
     Voice {
         wave,
         duty: 0.0,
@@ -66,10 +75,15 @@ pub fn voice_of(wave: SeqWave, k: &[f32; 22]) -> Voice {
             piano_decay: k[11],
         },
         bass: bass_of(k),
+        bars: pairs_of(bars),
         swing: 0.0,
         humanize: 0.0,
         env: envelope([0.0, 0.0, 1.0, 0.0, 0.0]),
     }
+}
+
+fn pairs_of(b: &[f32; 10]) -> Pairs {
+    [0, 2, 4, 6, 8].map(|i| (b[i], b[i + 1]))
 }
 
 fn bass_of(k: &[f32; 22]) -> BassKnobs {

@@ -1,19 +1,6 @@
 //! A part of render/seq.rs: its private functions under public names.
 use super::*;
-
-/// What a voice is set to, held by value.
-#[derive(Clone, Copy)]
-pub struct Voice {
-    pub wave: SeqWave,
-    pub duty: f32,
-    pub fm: FmKnobs,
-    pub pluck: PluckKnobs,
-    pub piano: PianoKnobs,
-    pub bass: BassKnobs,
-    pub swing: f32,
-    pub humanize: f32,
-    pub env: Adsr,
-}
+use crate::voice::Voice;
 
 /// With no points the tempo is straight.
 fn with_voice<R>(voice: &Voice, points: &[TempoPoint], act: impl FnOnce(&SeqVoice) -> R) -> R {

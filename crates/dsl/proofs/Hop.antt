@@ -2,7 +2,8 @@
 use Prim.Native.Nat.{ℕ, zero, suc, _+_, _-_, _*_, _/_, _^_, _≤_, _<_}
 use mathlib.Core.Path.{_≡_, refl, sym, ap, _∙_}
 use native.Mathlib.Nat.{le-trans, le-of-eq, mul-assoc, mul-right-comm, mul-add, add-mul, one-mul, mul-le-mul}
-use native.Mathlib.Nat.{mul-le-mul-left, mul-le-mul-right, lt-of-mul-lt-mul-right, div-mul-le-self, div-lt-iff-lt-mul, div-eq-of-lt, div-eq-of-lt-le, div-le-of-le-mul, div-eq-sub-div, div-one, mul-add-div-right}
+use native.Mathlib.Nat.{mul-le-mul-left, mul-le-mul-right, lt-of-mul-lt-mul-right, div-mul-le-self, div-lt-iff-lt-mul}
+use native.Mathlib.Nat.{div-eq-of-lt, div-eq-of-lt-le, div-le-of-le-mul, div-eq-sub-div, div-one, mul-add-div-right}
 use native.Mathlib.Numerals.{add-one}
 use native.Mathlib.Omega.{arith}
 use mathlib.Core.List.{List, [], _∷_, _++_}

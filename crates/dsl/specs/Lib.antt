@@ -1,6 +1,7 @@
 pub mod Wave
 pub mod Sized
 pub mod Knobs
+pub mod Drawbars
 pub mod Sets
 pub mod Pitch
 pub mod Note

@@ -1,10 +1,11 @@
--- A knob set from a reading by index: `knob i` is knob i of the set, in the order of node.rs.
+-- A knob set from a reading by index: `knob i` is knob i of the set, in the order of node.rs; and drawbars likewise, ratio before level.
 use Prim.Native.Nat.{ℕ}
 use lib.Ieee.{Float}
 use Rattle.dsl.specs.declared.knobs.FmKnobs.{FmKnobs}
 use Rattle.dsl.specs.declared.knobs.PluckKnobs.{PluckKnobs}
 use Rattle.dsl.specs.declared.knobs.PianoKnobs.{PianoKnobs}
 use Rattle.dsl.specs.declared.knobs.BassKnobs.{BassKnobs}
+use Rattle.dsl.specs.declared.knobs.Drawbars.{Drawbars}
 
 module _ (knob : ℕ → Float) where
   abbrev pub fmBy : FmKnobs
@@ -28,4 +29,18 @@ module _ (knob : ℕ → Float) where
     «bass_sub_ratio» = knob 7;
     «bass_drive» = knob 8;
     «bass_body_decay» = knob 9;
+  }
+
+  abbrev pub drawbarsBy : Drawbars
+  drawbarsBy = record {
+    ratio1 = knob 0;
+    level1 = knob 1;
+    ratio2 = knob 2;
+    level2 = knob 3;
+    ratio3 = knob 4;
+    level3 = knob 5;
+    ratio4 = knob 6;
+    level4 = knob 7;
+    ratio5 = knob 8;
+    level5 = knob 9;
   }

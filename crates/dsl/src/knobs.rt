@@ -3,6 +3,7 @@
 ghost use mathlib.Core.Path.{_≡_};
 ghost use Rattle.dsl.specs.Sized.{allSized};
 ghost use Rattle.dsl.specs.Knobs.{knobList, envList};
+ghost use Rattle.dsl.specs.Drawbars.{BARS};
 use crate::sized::all_sized;
 use crate::wave::SeqWave;
 
@@ -40,6 +41,40 @@ pub struct BassKnobs {
     pub bass_body_decay: f32,
 }
 
+// The organ's five drawbars: each a ratio to half the pitch and a level.
+pub struct Drawbars {
+    pub ratio1: f32,
+    pub level1: f32,
+    pub ratio2: f32,
+    pub level2: f32,
+    pub ratio3: f32,
+    pub level3: f32,
+    pub ratio4: f32,
+    pub level4: f32,
+    pub ratio5: f32,
+    pub level5: f32,
+}
+
+impl Drawbars {
+    // `BARS` of `organ_note`: what an organ has where no drawbars are set.
+    pub fn bars() -> Drawbars
+        ensures { λ r. ⌜ r ≡ BARS ⌝ }
+    {
+        Drawbars {
+            ratio1: 1.0,
+            level1: 0.45,
+            ratio2: 2.0,
+            level2: 1.0,
+            ratio3: 4.0,
+            level3: 0.45,
+            ratio4: 6.0,
+            level4: 0.3,
+            ratio5: 8.0,
+            level5: 0.22,
+        }
+    }
+}
+
 // Attack, decay and release in seconds, the sustained level, and the boost of the first moment.
 pub struct Adsr {
     pub a: f32,
@@ -49,16 +84,18 @@ pub struct Adsr {
     pub punch: f32,
 }
 
-// A wave and its knobs. The knobs of the sets that the wave doesn't use are there too.
+// A wave, its knobs and its drawbars. The knobs of the sets that the wave doesn't use are there too, and
+// drawbars whether it is the organ or not.
 pub struct SeqVoice {
     pub wave: SeqWave,
     pub fm: FmKnobs,
     pub pluck: PluckKnobs,
     pub piano: PianoKnobs,
     pub bass: BassKnobs,
+    pub bars: Drawbars,
 }
 
-// Whether each knob of the four sets is sized.
+// Whether each knob of the four sets and each number of the drawbars is sized.
 pub fn knobs_sized(voice: SeqVoice) -> bool
     ensures { λ r. ⌜ r ≡ allSized (knobList voice) ⌝ }
 {
@@ -66,6 +103,7 @@ pub fn knobs_sized(voice: SeqVoice) -> bool
     let pluck = voice.pluck;
     let piano = voice.piano;
     let bass = voice.bass;
+    let bars = voice.bars;
     let values = [
         fm.fm_ratio,
         fm.fm_index,
@@ -89,6 +127,16 @@ pub fn knobs_sized(voice: SeqVoice) -> bool
         bass.bass_sub_ratio,
         bass.bass_drive,
         bass.bass_body_decay,
+        bars.ratio1,
+        bars.level1,
+        bars.ratio2,
+        bars.level2,
+        bars.ratio3,
+        bars.level3,
+        bars.ratio4,
+        bars.level4,
+        bars.ratio5,
+        bars.level5,
     ];
     all_sized(&values)
 }

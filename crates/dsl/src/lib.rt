@@ -1,5 +1,5 @@
 // dsl/node.rs and dsl/mod.rs: what a score is written in. Everything here is taken by value.
-mod knobs; // knobs.rt: the knob sets and the envelope
+mod knobs; // knobs.rt: the knob sets, the drawbars and the envelope
 mod note; // note.rt: a note, and its decoding from five words
 mod pitch; // pitch.rt: a number in hertz or a curve
 mod sized; // sized.rt: numbers of the domain
@@ -7,6 +7,7 @@ mod wave; // wave.rt: the waves and their places
 
 pub use knobs::Adsr;
 pub use knobs::BassKnobs;
+pub use knobs::Drawbars;
 pub use knobs::FmKnobs;
 pub use knobs::PianoKnobs;
 pub use knobs::PluckKnobs;

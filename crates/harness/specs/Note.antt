@@ -17,6 +17,7 @@ pub record NoteExport : Type 0 where
   pub rate : ℕ
   pub wave : ℕ
   pub knobs : List Float
+  pub bars : List Float
   pub gain : Float
   pub pitch : List Float
   pub duty : List Float
@@ -41,7 +42,7 @@ noteCalledWith (Voice v) e = made (noteResultOf (handedWith v e) (e .state₀))
 noteCalledWith Nothing e = none
 
 abbrev pub noteCalled : NoteExport → Called
-noteCalled e = noteCalledWith (voiceAt (e .wave) (e .knobs)) e
+noteCalled e = noteCalledWith (voiceAt (e .wave) (e .knobs) (e .bars)) e
 
 -- The contract: all is as in the note call of that voice.
 pub record NoteExported (e : NoteExport) : Type 0 where

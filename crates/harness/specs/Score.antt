@@ -31,6 +31,7 @@ pub record ScoreExport : Type 0 where
   pub wave : ℕ
   pub duty : Float
   pub knobs : List Float
+  pub bars : List Float
   pub env : List Float
   pub notes : List ℕ
   pub lane : List Float
@@ -60,7 +61,7 @@ scoreCalledWith (Voice v) envelopes.Nothing whole e = none
 scoreCalledWith voices.Nothing env whole e = none
 
 abbrev pub scoreCalled : ScoreExport → Called
-scoreCalled e = scoreCalledWith (voiceAt (e .wave) (e .knobs)) (envAt (e .env)) (wholeOf (length (e .seeds)) (length (e .counts₀)) (length (e .points))) e
+scoreCalled e = scoreCalledWith (voiceAt (e .wave) (e .knobs) (e .bars)) (envAt (e .env)) (wholeOf (length (e .seeds)) (length (e .counts₀)) (length (e .points))) e
 
 -- The contract: all is as in the score call of that voice and envelope. The note buffer's first n values are free after an accepted call.
 pub record ScoreExported (e : ScoreExport) : Type 0 where

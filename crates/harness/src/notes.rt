@@ -7,13 +7,15 @@ use harness_knobs::voice_at;
 use rng::Rng;
 
 // 0 where the call is accepted, else the refusal's number. `state` is the generator's, and changes
-// only with an accepted call; `draws` gets the draws made, 0 for a refusal. Where there is no such wave
-// or there are not 22 knobs, the answer is 4294967295 and nothing changes.
+// only with an accepted call; `draws` gets the draws made, 0 for a refusal. `bars` has the drawbars, ratio
+// before level. Where there is no such wave, or there are not 22 knobs and 10 numbers of drawbars, the
+// answer is 4294967295 and nothing changes.
 #[no_mangle]
 pub extern "C" fn h_note(
     rate: u32,
     wave: u32,
     knobs: &[f32],
+    bars: &[f32],
     gain: f32,
     state: &mut u64,
     draws: &mut u64,
@@ -26,6 +28,7 @@ pub extern "C" fn h_note(
       rate = rate;
       wave = wave;
       knobs = now (knobs .entry);
+      bars = now (bars .entry);
       gain = gain;
       pitch = now (pitch .entry);
       duty = now (duty .entry);
@@ -42,7 +45,7 @@ pub extern "C" fn h_note(
       };
     }) ⌝ }
 {
-    let VoiceAt::Voice(voice) = voice_at(wave, knobs) else {
+    let VoiceAt::Voice(voice) = voice_at(wave, knobs, bars) else {
         return u32::MAX;
     };
     let rng = Rng::new(*state);

@@ -17,9 +17,9 @@ use session::Session;
 // 0 where the call is accepted, else the refusal's number. `seeds` and `counts` are the session's, eight of each; the
 // count of the station that is named changes with an accepted call, and nothing else of them.
 // `draws` gets the draws made, 0 for a refusal. `points` has four words a tempo point: the numerator's low
-// and high word, the denominator, the tempo's bits. Where there are not eight seeds and
-// counts, there is no such wave, there are not 22 knobs and 5 numbers of an envelope, or `points` is no multiple of four,
-// the answer is 4294967295 and nothing changes.
+// and high word, the denominator, the tempo's bits. `bars` has the drawbars, ratio before level. Where there are not
+// eight seeds and counts, there is no such wave, there are not 22 knobs, 10 numbers of drawbars and 5 of an envelope, or
+// `points` is no multiple of four, the answer is 4294967295 and nothing changes.
 #[no_mangle]
 pub extern "C" fn h_score(
     seeds: &[u64],
@@ -36,6 +36,7 @@ pub extern "C" fn h_score(
     wave: u32,
     duty: f32,
     knobs: &[f32],
+    bars: &[f32],
     env: &[f32],
     notes: &[u32],
     lane: &[f32],
@@ -52,6 +53,7 @@ pub extern "C" fn h_score(
       wave = wave;
       duty = duty;
       knobs = now (knobs .entry);
+      bars = now (bars .entry);
       env = now (env .entry);
       notes = now (notes .entry);
       lane = now (lane .entry);
@@ -70,7 +72,7 @@ pub extern "C" fn h_score(
       };
     }) ⌝ }
 {
-    let VoiceAt::Voice(voice) = voice_at(wave, knobs) else {
+    let VoiceAt::Voice(voice) = voice_at(wave, knobs, bars) else {
         return u32::MAX;
     };
     let EnvAt::Env(env) = env_at(env) else {

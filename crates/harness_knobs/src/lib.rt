@@ -1,11 +1,12 @@
-// The voice of a wave's place and of 22 knobs, and the envelope of 5 values: what the calls from C and
-// the outside vectors have in place of a voice and an envelope.
+// The voice of a wave's place, of 22 knobs and of 10 numbers of drawbars, and the envelope of 5 values: what
+// the calls from C and the outside vectors have in place of a voice and an envelope.
 ghost use mathlib.Core.Path.{_≡_};
 ghost use lib.ListN.{length};
-ghost use Rattle.dsl.specs.Sets.{fmBy, pluckBy, pianoBy, bassBy};
+ghost use Rattle.dsl.specs.Sets.{fmBy, pluckBy, pianoBy, bassBy, drawbarsBy};
 ghost use Rattle.harness_knobs.specs.Knobs.{knobFrom, voiceAt, envAt};
 use dsl::Adsr;
 use dsl::BassKnobs;
+use dsl::Drawbars;
 use dsl::FmKnobs;
 use dsl::PianoKnobs;
 use dsl::PluckKnobs;
@@ -13,7 +14,7 @@ use dsl::SeqVoice;
 use dsl::SeqWave;
 use dsl::WaveAt;
 
-// A voice, or nothing where there is no such wave or there are not 22 knobs.
+// A voice, or nothing where there is no such wave, or there are not 22 knobs and 10 numbers of drawbars.
 pub enum VoiceAt {
     Voice(SeqVoice),
     Nothing,
@@ -79,10 +80,31 @@ fn bass_knobs(k: &[f32]) -> BassKnobs
     }
 }
 
-pub fn voice_at(wave: u32, knobs: &[f32]) -> VoiceAt
-    ensures { λ r. ⌜ r ≡ voiceAt wave (now (knobs .entry)) ⌝ }
+fn drawbars(b: &[f32]) -> Drawbars
+    requires { ⌜ length (now b) ≡ 10 ⌝ }
+    ensures { λ r. ⌜ r ≡ drawbarsBy (knobFrom 0 (now (b .entry))) ⌝ }
+{
+    Drawbars {
+        ratio1: b[0],
+        level1: b[1],
+        ratio2: b[2],
+        level2: b[3],
+        ratio3: b[4],
+        level3: b[5],
+        ratio4: b[6],
+        level4: b[7],
+        ratio5: b[8],
+        level5: b[9],
+    }
+}
+
+pub fn voice_at(wave: u32, knobs: &[f32], bars: &[f32]) -> VoiceAt
+    ensures { λ r. ⌜ r ≡ voiceAt wave (now (knobs .entry)) (now (bars .entry)) ⌝ }
 {
     if knobs.len() != 22 {
+        return VoiceAt::Nothing;
+    }
+    if bars.len() != 10 {
         return VoiceAt::Nothing;
     }
     let WaveAt::Wave(wave) = SeqWave::at(wave) else {
@@ -92,12 +114,14 @@ pub fn voice_at(wave: u32, knobs: &[f32]) -> VoiceAt
     let pluck = pluck_knobs(knobs);
     let piano = piano_knobs(knobs);
     let bass = bass_knobs(knobs);
+    let bars = drawbars(bars);
     VoiceAt::Voice(SeqVoice {
         wave,
         fm,
         pluck,
         piano,
         bass,
+        bars,
     })
 }
 

@@ -43,7 +43,7 @@ numberTests t n =
     ∷ (not (withinOf (t .humanize) c0 c1) ⇒ Groove)
     ∷ [])
 
--- "6 a knob of any of the four sets, whether the wave uses it or not, the duty or an envelope number isn't sized"
+-- "6 a knob of any of the four sets, whether the wave uses it or not, the duty or an envelope number isn't sized", and the drawbars "as knobs are" (`knobList`)
 abbrev pub voiceTests : Seq → List Test
 voiceTests q = (not (allSized (knobList (q .voice))) ⇒ Knobs) ∷ (not (sizedOf (q .duty)) ⇒ Knobs) ∷ (not (allSized (envList (q .env))) ⇒ Knobs) ∷ []
 

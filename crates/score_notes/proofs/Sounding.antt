@@ -35,7 +35,8 @@ module _ (s : Score) (d : Decoded) (m : SeqNote) (p : Place) (is : d ≡ Note m)
         rw at (some-sounded s m heard, (all-within s m heard, (len-most s m (fit .frames), sounded-reached s fit m fine)))
 
     pub sounded-note : (g r : ℕ) (out after : List Float) → r ≡ stateAfter g (drawsOf (waveIn s) (rateIn s) (pitchAt (reading (m .pitch) (s .seq .hop)) (s .lane) 0) (p .sounded))
-        → after ≡ mixedAt (p .start) (noteFrames (rateIn s) (s .seq .voice) (m .gain) (pitchAt (reading (m .pitch) (s .seq .hop)) (s .lane)) (λ _. s .seq .duty) g (p .sounded)) (s .seq .env) (p .len) (rateIn s) (p .gain) out
+        → after ≡ mixedAt (p .start) (noteFrames (rateIn s) (s .seq .voice) (m .gain) (pitchAt (reading (m .pitch) (s .seq .hop)) (s .lane)) (λ _. s .seq .duty) g (p .sounded))
+        (s .seq .env) (p .len) (rateIn s) (p .gain) out
         → (r ≡ stateAfter g (noteDraws s d)) × (after ≡ withNote s d g out)
     unfolding samplesIn
     sounded-note g r out after er eo =

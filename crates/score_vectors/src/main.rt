@@ -2,8 +2,8 @@
 //   open S0 D0 S1 D1 .. S7 D7
 // which opens a session, of the seed and the draw count of each station, or a call on it:
 //   score RATE TEMPO STEPS-PER-BEAT SWING HUMANIZE WAVE DUTY N NOTE-BUFFER STRING, then how many
-//   knobs, envelope numbers, note words, lane values and words of tempo points there are, then HOP and
-//   STATION, and these
+//   knobs, envelope numbers, note words, lane values and words of tempo points there are, then HOP,
+//   STATION and how many numbers of drawbars there are, and these; the drawbars follow the knobs
 // The states of a session's eight generators are appended, or a call's number, its draws, the state of its
 // station's generator, the session's eight counts after it and the frames. The state is 0 where no call is
 // made or there is no such station.
@@ -68,12 +68,15 @@ fn point_words(line: &[u8], from: usize) -> [u32; 264]
 
 fn voice_of(line: &[u8]) -> VoiceAt {
     let count = vectors::length_field(line, 11, MOST);
-    let values = floats(line, 18);
-    harness_knobs::voice_at(vectors::u32_field(line, 6), &values[..count])
+    let bar_count = vectors::length_field(line, 18, MOST);
+    let wave = vectors::u32_field(line, 6);
+    let values = floats(line, 19);
+    let bars = floats(line, 19 + count);
+    harness_knobs::voice_at(wave, &values[..count], &bars[..bar_count])
 }
 
 fn env_of(line: &[u8]) -> EnvAt {
-    let from = 18 + vectors::length_field(line, 11, MOST);
+    let from = 19 + vectors::length_field(line, 11, MOST) + vectors::length_field(line, 18, MOST);
     let count = vectors::length_field(line, 12, MOST);
     let values = floats(line, from);
     harness_knobs::env_at(&values[..count])
@@ -81,8 +84,9 @@ fn env_of(line: &[u8]) -> EnvAt {
 
 // The points follow all other values.
 fn map_of(line: &[u8]) -> TempoMap {
-    let from = 18
+    let from = 19
         + vectors::length_field(line, 11, MOST)
+        + vectors::length_field(line, 18, MOST)
         + vectors::length_field(line, 12, MOST)
         + vectors::length_field(line, 13, MOST)
         + vectors::length_field(line, 14, MOST);
@@ -174,12 +178,13 @@ fn call(line: &[u8], session: Session, seq: Seq, notes: &[u32], lane: &[f32]) ->
     after
 }
 
-// The session after the call with the line's notes and lane, which follow knobs and envelope.
+// The session after the call with the line's notes and lane, which follow knobs, drawbars and envelope.
 fn score(line: &[u8], session: Session, seq: Seq) -> Session {
     let word_count = vectors::length_field(line, 13, MOST);
     let lane_count = vectors::length_field(line, 14, MOST);
-    let words_at = 18
+    let words_at = 19
         + vectors::length_field(line, 11, MOST)
+        + vectors::length_field(line, 18, MOST)
         + vectors::length_field(line, 12, MOST);
     let notes = words(line, words_at);
     let lane = floats(line, words_at + word_count);

@@ -1,5 +1,5 @@
 -- No knob moves the noise. The draws of a score depend on its wave, its rate, and of each note on its sounded frames and its first pitch; so lists of calls that differ in
--- knobs, duty, envelopes and gains are refused alike, draw alike and end alike. Assumes nothing.
+-- knobs, drawbars, duty, envelopes and gains are refused alike, draw alike and end alike. Assumes nothing.
 use Prim.Native.Nat.{ℕ, zero, suc, _+_, _-_, _*_, _/_, _%_, _^_, _≤_, _<_}
 use mathlib.Core.Path.{_≡_, refl, sym, ap, _∙_}
 use mathlib.Core.List.{List, [], _∷_, _++_, map}
@@ -93,7 +93,7 @@ module _ (s s′ : Score) (alike : Alike s s′) where
 pub same-draws : (s s′ : Score) → Alike s s′ → scoreDraws s ≡ scoreDraws s′
 same-draws s s′ alike = draws-all s ∙ before-same s s′ alike (noteCount s) (le-refl (noteCount s)) ∙ ap (drawsBefore s′) (alike .notes) ∙ sym (draws-all s′)
 
--- ---- scores that differ in knobs, duty, envelope and gains
+-- ---- scores that differ in knobs, drawbars, duty, envelope and gains
 -- a note's gain moves neither its start nor its length
 either : {A : Type 0} (f : Place → A) (b : Bool) (x y x′ y′ : Place) → f x ≡ f x′ → f y ≡ f y′ → f (cond b x y) ≡ f (cond b x′ y′)
 either f true x y x′ y′ p q = p
@@ -175,7 +175,7 @@ module _ (s s′ : Score) (r : Reset s s′) where
   count-same : noteCount s ≡ noteCount s′
   count-same = ap (λ (n : ℕ). n / 5) (r .words)
 
-  -- THE THEOREM: scores that differ in nothing but knobs, duty, envelope and gains are alike
+  -- THE THEOREM: scores that differ in nothing but knobs, drawbars, duty, envelope and gains are alike
   pub reset-alike : Alike s s′
   reset-alike = record {
     wave = r .wave;
@@ -209,7 +209,8 @@ module _ (s s′ : Score) (r : Reset s s′) where
       let middle : orElse (firstOf (numberTests (s .seq .timing) (s .n))) (orElse (firstOf (voiceTests (s .seq))) (firstOf (lentTests s ++ listTests s)))
       ≡ orElse (firstOf (numberTests (s′ .seq .timing) (s′ .n))) (orElse (firstOf (voiceTests (s′ .seq))) (firstOf (lentTests s′ ++ listTests s′)))
       = λ j. orElse (firstOf (numberTests (r .timing j) (r .frames j))) (orElse (voices j)
-      (firstOf ((ltb (r .room j) (r .frames j) ⇒ NoteBuffer) ∷ (ltb (r .string j) 9600 ⇒ StringBuffer) ∷ (outside (r .hop j) 1 4096 ⇒ Hop) ∷ (not (eqb (r .words j % 5) 0) ⇒ Words) ∷ (not (allSized (r .lane j)) ⇒ Lane) ∷ []))) in
+      (firstOf ((ltb (r .room j) (r .frames j) ⇒ NoteBuffer) ∷ (ltb (r .string j) 9600 ⇒ StringBuffer) ∷ (outside (r .hop j) 1 4096 ⇒ Hop)
+      ∷ (not (eqb (r .words j % 5) 0) ⇒ Words) ∷ (not (allSized (r .lane j)) ⇒ Lane) ∷ []))) in
       parts s ∙ middle ∙ sym (parts s′)
 
   -- THE THEOREM: the same refusal, or none in both
@@ -272,8 +273,8 @@ module _ (seed : ℕ) where
         ends = ap (λ (x : ℕ). tally seed x ss .end) here ∙ later .ends ∙ ap (λ (x : ℕ). tally seed x ss′ .end) (sym there);
       }
 
--- THE THEOREM, which a paper cites: of two lists of score calls, on stations opened with one seed at one draw, that differ in nothing but knobs, duty, gains and envelopes, all
--- sized, each call is refused with the same number or accepted in both; each note starts from the same draw and state, and draws the same; and both stations end alike.
+-- THE THEOREM, which a paper cites: of two lists of score calls, on stations opened with one seed at one draw, that differ in nothing but knobs, drawbars, duty, gains and
+-- envelopes, all sized, each call is refused with the same number or accepted in both; each note starts from the same draw and state, and draws the same; and both stations end alike.
 pub no-knob-moves-noise : (s c : ℕ) (es es′ : List Event) (b b′ : Station) → Run (stationAt s c) es b → Run (stationAt s c) es′ b′ → Resets (map scoreIn es) (map scoreIn es′)
     → NoiseKept s c es es′ b b′
 no-knob-moves-noise s c es es′ b b′ run run′ resets =

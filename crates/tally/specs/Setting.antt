@@ -1,4 +1,4 @@
--- That no knob moves the noise: what the draws of a score depend on, and lists of calls that differ in knobs, duty, gains and envelopes alone.
+-- That no knob moves the noise: what the draws of a score depend on, and lists of calls that differ in knobs, drawbars, duty, gains and envelopes alone.
 use Prim.Native.Nat.{ℕ, _+_, _*_, _<_}
 use mathlib.Core.Path.{_≡_}
 use mathlib.Core.List.{List, [], _∷_, map}
@@ -40,12 +40,12 @@ pub record Alike (s s′ : Score) : Type 0 where
   pub sounded : (k : ℕ) → k < noteCount s → soundedIn s (noteIn s k) ≡ soundedIn s′ (noteIn s′ k)
   pub first : (k : ℕ) → k < noteCount s → 0 < soundedIn s (noteIn s k) → firstIn s (noteIn s k) ≡ firstIn s′ (noteIn s′ k)
 
--- knobs, duty, envelope and gains of a score are sized
+-- knobs, drawbars, duty, envelope and gains of a score are sized
 pub record Sized (s : Score) : Type 0 where
   pub voice : firstOf (voiceTests (s .seq)) ≡ Fine
   pub gains : (k : ℕ) → k < noteCount s → gainSized (noteIn s k) ≡ true
 
--- Two scores that differ in nothing but knobs, duty, envelope and the notes' gains, all sized in both: of a note's five words the fifth is the gain.
+-- Two scores that differ in nothing but knobs, drawbars, duty, envelope and the notes' gains, all sized in both: of a note's five words the fifth is the gain.
 pub record Reset (s s′ : Score) : Type 0 where
   pub wave : waveIn s ≡ waveIn s′
   pub timing : s .seq .timing ≡ s′ .seq .timing

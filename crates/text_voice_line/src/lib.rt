@@ -1,12 +1,13 @@
-// The line V of a text score: a wave with its knobs, and the duty.
+// The line V of a text score: a wave with its knobs or drawbars, and the duty.
 ghost use mathlib.Core.Path.{_≡_};
 ghost use lib.ListN.{drop};
 ghost use Rattle.dsl.specs.Sets.{fmBy, pluckBy, pianoBy, bassBy};
 ghost use Rattle.dsl.specs.declared.wave.WaveAt.the-variants.{Wave};
 ghost use Rattle.text_lines.specs.Line.{floatAt};
-ghost use Rattle.text_voice_line.specs.Voice.{knobCount, voiceWith, voiceOf, soundOf, lineV};
+ghost use Rattle.text_voice_line.specs.Voice.{ends, barCount, knobCount, barsOf, voiceWith, voiceOf, soundOf, lineV};
 ghost use Rattle.text_voice_line.specs.Answers.{soundIn};
 use dsl::BassKnobs;
+use dsl::Drawbars;
 use dsl::FmKnobs;
 use dsl::PianoKnobs;
 use dsl::PluckKnobs;
@@ -22,18 +23,40 @@ use text_lines::ending;
 use text_lines::field;
 use text_lines::float_at;
 
-// The places of the waves that have knobs.
+// The places of the waves that have knobs or drawbars.
 const FM: u32 = 5;
 
 const PLUCK: u32 = 6;
 
 const PIANO: u32 = 7;
 
+const ORGAN: u32 = 9;
+
 const BASS: u32 = 15;
 
-// How many knobs the wave at a place has.
-fn knob_count(place: u32) -> usize
-    ensures { λ r. ⌜ r ≡ knobCount place ⌝ }
+// Whether the line ends at a place.
+fn ends(s: &[u8], at: usize) -> bool
+    ensures { λ r. ⌜ r ≡ ends (drop at (now (s .entry))) ⌝ }
+{
+    match expect(s, at, b'\n') {
+        Place::At(_) => true,
+        Place::Broken => false,
+    }
+}
+
+// Drawbars are ten numbers or, where the line ends after the duty, none.
+fn bar_count(ended: bool) -> usize
+    ensures { λ r. ⌜ r ≡ barCount ended ⌝ }
+{
+    if ended {
+        return 0;
+    }
+    10
+}
+
+// How many numbers follow the duty of the wave at a place.
+fn knob_count(place: u32, ended: bool) -> usize
+    ensures { λ r. ⌜ r ≡ knobCount place ended ⌝ }
 {
     if place == FM {
         return 3;
@@ -46,6 +69,9 @@ fn knob_count(place: u32) -> usize
     }
     if place == BASS {
         return 10;
+    }
+    if place == ORGAN {
+        return bar_count(ended);
     }
     0
 }
@@ -101,9 +127,37 @@ fn bass_of(bits: &[u32]) -> BassKnobs
     }
 }
 
-// The voice of the bits of each set.
-fn voice_with(wave: SeqWave, fm: &[u32], pluck: &[u32], piano: &[u32], bass: &[u32]) -> SeqVoice
-    ensures { λ r. ⌜ r ≡ voiceWith wave (now (fm .entry)) (now (pluck .entry)) (now (piano .entry)) (now (bass .entry)) ⌝ }
+// The drawbars of some bits, `BARS` where there are none.
+fn bars_of(bits: &[u32]) -> Drawbars
+    ensures { λ r. ⌜ r ≡ barsOf (now (bits .entry)) ⌝ }
+{
+    if bits.len() == 0 {
+        return Drawbars::bars();
+    }
+    Drawbars {
+        ratio1: float_at(bits, 0),
+        level1: float_at(bits, 1),
+        ratio2: float_at(bits, 2),
+        level2: float_at(bits, 3),
+        ratio3: float_at(bits, 4),
+        level3: float_at(bits, 5),
+        ratio4: float_at(bits, 6),
+        level4: float_at(bits, 7),
+        ratio5: float_at(bits, 8),
+        level5: float_at(bits, 9),
+    }
+}
+
+// The voice of the bits of each set and of the drawbars.
+fn voice_with(
+    wave: SeqWave,
+    fm: &[u32],
+    pluck: &[u32],
+    piano: &[u32],
+    bass: &[u32],
+    bars: &[u32],
+) -> SeqVoice
+    ensures { λ r. ⌜ r ≡ voiceWith wave (now (fm .entry)) (now (pluck .entry)) (now (piano .entry)) (now (bass .entry)) (now (bars .entry)) ⌝ }
 {
     SeqVoice {
         wave,
@@ -111,27 +165,31 @@ fn voice_with(wave: SeqWave, fm: &[u32], pluck: &[u32], piano: &[u32], bass: &[u
         pluck: pluck_of(pluck),
         piano: piano_of(piano),
         bass: bass_of(bass),
+        bars: bars_of(bars),
     }
 }
 
-// The voice of a wave, of its place and its own knobs' bits.
+// The voice of a wave, of its place and the bits of its own knobs or drawbars.
 fn voice_of(place: u32, wave: SeqWave, bits: &[u32]) -> SeqVoice
     ensures { λ r. ⌜ r ≡ voiceOf place wave (now (bits .entry)) ⌝ }
 {
     let none = &bits[..0];
     if place == FM {
-        return voice_with(wave, bits, none, none, none);
+        return voice_with(wave, bits, none, none, none, none);
     }
     if place == PLUCK {
-        return voice_with(wave, none, bits, none, none);
+        return voice_with(wave, none, bits, none, none, none);
     }
     if place == PIANO {
-        return voice_with(wave, none, none, bits, none);
+        return voice_with(wave, none, none, bits, none, none);
     }
     if place == BASS {
-        return voice_with(wave, none, none, none, bits);
+        return voice_with(wave, none, none, none, bits, none);
     }
-    voice_with(wave, none, none, none, none)
+    if place == ORGAN {
+        return voice_with(wave, none, none, none, none, bits);
+    }
+    voice_with(wave, none, none, none, none, none)
 }
 
 pub struct Sound {
@@ -144,7 +202,7 @@ pub enum LineV {
     Broken,
 }
 
-// The duty and the knobs of a wave, to the end of its line.
+// The duty and the knobs or drawbars of a wave, to the end of its line.
 fn sound_of(s: &[u8], at: usize, place: u32, wave: SeqWave) -> LineV
     ensures { λ r. ⌜ soundIn (now (s .entry)) r ≡ soundOf place (Wave wave) (drop at (now (s .entry))) ⌝ }
 {
@@ -153,7 +211,7 @@ fn sound_of(s: &[u8], at: usize, place: u32, wave: SeqWave) -> LineV
     };
     let kinds = [FLOAT; 10];
     let mut bits = [0u32; 10];
-    let k = knob_count(place);
+    let k = knob_count(place, ends(s, first));
     let Place::At(next) = ending(s, first, &kinds[..k], &mut bits) else {
         return LineV::Broken;
     };

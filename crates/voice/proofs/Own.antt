@@ -19,7 +19,7 @@ use Rattle.voice_epiano.specs.Epiano.{epianoDecay, epianoAt, epianoStart, epian
 use Rattle.voice_mallet.specs.Mallet.{malletAt, malletFrames}
 use Rattle.voice_bell.specs.Bell.{bellAt, bellFrames}
 use Rattle.voice_bass.specs.Bass.{bassAt, bassFrames}
-use Rattle.voice_organ.specs.Organ.{organAt, organFrames}
+use Rattle.voice_organ.specs.Organ.{organNorm, organAt, organFrames}
 use Rattle.voice_strings.specs.Strings.{stringsLowpass, stringsAt, stringsFrames}
 use Rattle.voice_brass.specs.Brass.{brassAt, brassFrames}
 use Rattle.voice_flute.specs.Flute.{fluteLowpass, fluteAt, fluteFrames}
@@ -63,7 +63,7 @@ module _ (r : ℕ) (v : SeqVoice) (gain : Float) (f f′ d d′ : ℕ → Float)
   wave-same Pluck e = pluck-same
   wave-same Piano e = piano-same
   wave-same Epiano e = epiano-same
-  wave-same Organ e = own-frames (λ p. organAt p (f32 r)) _ _ _ f f′ n h
+  wave-same Organ e = own-frames (λ p. organAt (v .bars) (organNorm (v .bars)) p (f32 r)) _ _ _ f f′ n h
   wave-same Strings e = own-frames (λ p. stringsAt p (f32 r) (stringsLowpass (f32 r))) _ _ _ f f′ n h
   wave-same Brass e = own-frames (λ p. brassAt p gain (f32 r)) _ _ _ f f′ n h
   wave-same Flute e = own-frames (λ p. fluteAt p gain (f32 r) (fluteLowpass (f32 r))) _ _ _ f f′ n h

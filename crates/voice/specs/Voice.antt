@@ -34,7 +34,7 @@ waveFrames Fm r v gain f d s n = fmFrames f (v .fm) gain (f32 r) n
 waveFrames Pluck r v gain f d s n = pluckFrames (v .pluck) (f32 r) (periodOf r (f 0)) s n
 waveFrames Piano r v gain f d s n = pianoFrames f (v .piano) gain (f32 r) s n
 waveFrames Epiano r v gain f d s n = epianoFrames f gain (f32 r) n
-waveFrames Organ r v gain f d s n = organFrames f (f32 r) n
+waveFrames Organ r v gain f d s n = organFrames (v .bars) f (f32 r) n
 waveFrames Strings r v gain f d s n = stringsFrames f (f32 r) n
 waveFrames Brass r v gain f d s n = brassFrames f gain (f32 r) n
 waveFrames Flute r v gain f d s n = fluteFrames f gain (f32 r) (record { 0 = s }) n

@@ -53,7 +53,7 @@ pub fn voice_note(
             return voice_piano::piano_note(voice.piano, gain, pitch, lane, rate, rng, out);
         }
         SeqWave::Epiano => voice_epiano::epiano_note(pitch, lane, gain, srf, out),
-        SeqWave::Organ => voice_organ::organ_note(pitch, lane, srf, out),
+        SeqWave::Organ => voice_organ::organ_note(voice.bars, pitch, lane, srf, out),
         SeqWave::Strings => voice_strings::strings_note(pitch, lane, srf, out),
         SeqWave::Brass => voice_brass::brass_note(pitch, lane, gain, srf, out),
         SeqWave::Flute => return voice_flute::flute_note(pitch, lane, gain, srf, rng, out),

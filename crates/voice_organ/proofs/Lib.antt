@@ -1,1 +1,3 @@
 mod Organ
+mod Same
+pub mod Bars

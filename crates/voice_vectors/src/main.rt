@@ -1,6 +1,6 @@
 // Replays notes of every wave whose answers the original gave. A line of standard input names a
 // wave and gives rate, gain, state, frames, the pitches and duties of the first frames, of which the
-// last goes on, and the knobs; the samples and the state after them are appended.
+// last goes on, the knobs and the drawbars; the samples and the state after them are appended.
 ghost use Prim.Native.Nat.{_≤_, _<_};
 use harness_knobs::VoiceAt;
 use libc::STDIN_FILENO;
@@ -39,6 +39,18 @@ fn knob_values(line: &[u8], from: usize) -> [f32; 22]
     out
 }
 
+fn bar_values(line: &[u8], from: usize) -> [f32; 10]
+    requires { ⌜ from ≤ 1024 ⌝ }
+{
+    let mut out = [0.0f32; 10];
+    let mut i = 0;
+    while i < 10 {
+        out[i] = vectors::f32_field(line, from + i);
+        i += 1;
+    }
+    out
+}
+
 fn print_samples(out: &[f32; 128], frames: usize)
     requires { ⌜ frames ≤ 128 ⌝ }
 {
@@ -50,9 +62,17 @@ fn print_samples(out: &[f32; 128], frames: usize)
 }
 
 // Fills `out` with the line's note; the generator after it. Where the wave is none, nothing changes.
-fn sound(line: &[u8], set: &[f32], pitch: &[f32], duty: &[f32], out: &mut [f32]) -> Rng {
+fn sound(
+    line: &[u8],
+    set: &[f32],
+    bars: &[f32],
+    pitch: &[f32],
+    duty: &[f32],
+    out: &mut [f32],
+) -> Rng {
     let rng = Rng::new(vectors::u64_field(line, 4));
-    let VoiceAt::Voice(voice) = harness_knobs::voice_at(vectors::u32_field(line, 1), set) else {
+    let wave = vectors::u32_field(line, 1);
+    let VoiceAt::Voice(voice) = harness_knobs::voice_at(wave, set, bars) else {
         return rng;
     };
     let rate = vectors::u32_field(line, 2);
@@ -68,10 +88,12 @@ fn play(line: &[u8], frames: usize, count: usize)
     let pitch = values(line, 7, count);
     let duty = values(line, 7 + count, count);
     let set = knob_values(line, 7 + 2 * count);
+    let bars = bar_values(line, 29 + 2 * count);
     let mut out = [0.0f32; 128];
     let after = sound(
         line,
         &set,
+        &bars,
         &pitch[..frames],
         &duty[..frames],
         &mut out[..frames],
@@ -108,7 +130,7 @@ fn replay(text: &[u8]) {
 }
 
 fn main() {
-    let mut text = io::large_buffer();
+    let mut text = vectors::input_buffer();
     let n = io::read_full(STDIN_FILENO, &mut text);
     replay(&text[..n]);
 }

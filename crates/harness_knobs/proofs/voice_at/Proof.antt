@@ -13,27 +13,47 @@ returns c = if-false _ (ne-eqb _ _ (c .if1 .taken)) refl
 
 returns-2 : tie.Need-returns-2
 unfolding voiceAt
-returns-2 c = if-true _ (eq-eqb _ _ (c .before .before .before .if1 .left)) (rw (← (c .before .before .at .ensures), c .enum-told .given .1))
+returns-2 c = if-true _ (eq-eqb _ _ (c .before .if1 .left)) (if-false _ (ne-eqb _ _ (c .if2 .taken)) refl)
 
 returns-3 : tie.Need-returns-3
 unfolding voiceAt
 returns-3 c =
-    let b3 = c .before .before .before in
-    let b7 = b3 .before .before .before .before in
-    if-true _ (eq-eqb _ _ (b7 .before .if1 .left))
-    (rw (← (b7 .at .ensures), b3 .before .before .wave .given .1, c .bass-knobs .ensures, c .before .piano-knobs .ensures, c .before .before .pluck-knobs .ensures, b3 .fm-knobs .ensures))
+    let b4 = c .before .before .before .before in
+    if-true _ (eq-eqb _ _ (b4 .if1 .left)) (if-true _ (eq-eqb _ _ (c .before .before .before .if2 .left)) (rw (← (c .before .before .at .ensures), c .enum-told .given .1)))
+
+returns-4 : tie.Need-returns-4
+unfolding voiceAt
+returns-4 c =
+    let b4 = c .before .before .before .before in
+    let b6 = c .before .before .before .before .before .before in
+    let b8 = c .before .before .before .before .before .before .before .before in
+    let b9 = c .before .before .before .before .before .before .before .before .before in
+    let b10 = c .before .before .before .before .before .before .before .before .before .before in
+    if-true _ (eq-eqb _ _ (b10 .if1 .left))
+    (if-true _ (eq-eqb _ _ (b9 .if2 .left))
+    (rw (
+      ← (b8 .at .ensures),
+      b6 .wave .given .1,
+      c .drawbars .ensures,
+      c .before .bass-knobs .ensures,
+      c .before .before .piano-knobs .ensures,
+      c .before .before .before .pluck-knobs .ensures,
+      b4 .fm-knobs .ensures,
+    )))
 
 pub voice-at-spec : {M : Type 1} → statement M
 voice-at-spec =
     tie.close
     (tie.spec
     returns
-    (λ c κs. search needs)
-    (λ c. search needs)
-    (λ c. search needs)
     returns-2
     (λ c κs. search needs)
+    (λ c. search needs)
+    (λ c. search needs)
+    returns-3
     (λ c κs. search needs)
     (λ c κs. search needs)
     (λ c κs. search needs)
-    returns-3)
+    (λ c κs. search needs)
+    (λ c κs. search needs)
+    returns-4)

@@ -35,11 +35,29 @@ slice-aggregate-sig c =
 
 voice-note-requires : tie.Need-voice-note-requires
 voice-note-requires c κs =
-    let a = c .before .before .before .before .before .before .before .before .before .args in
-    let p = c .before .before .before .before .before .before .before .before .before .pre in
-    let fits = fits-in (c .before .before .before .before .before .before .before .before .before) in
-    let e = length-take-le (a .place .sounded) (a .note-buf .now) fits in
-    (p .0, (rw e (p .1 .1 .0), (record { most = omega (arith, e, p .1 .0 .most, p .1 .1 .1 .0) }, (p .1 .1 .1 .1 .1 .1 .1, (rw (c .before .before .before .new .ensures, e) (p .1 .1 .1 .1 .1 .0), rw (c .before .before .new2 .ensures, e) (level-reached _ _ _ (p .1 .1 .1 .1 .1 .0 .few)))))))
+    let b9 = c .before .before .before .before .before .before .before .before .before in
+    let a = b9 .args in
+    let p = b9 .pre in
+    let fits = fits-in (b9) in
+    let e = length-take-le (a .place .sounded) (a .note-buf .now) fits in (
+      p .0,
+      (
+        rw e (p .1 .1 .0),
+        (
+          record { most = omega (arith, e, p .1 .0 .most, p .1 .1 .1 .0) },
+          (
+            p .1 .1 .1 .1 .1 .1 .1,
+            (
+              rw (
+                c .before .before .before .new .ensures,
+                e,
+              ) (p .1 .1 .1 .1 .1 .0),
+              rw (c .before .before .new2 .ensures, e) (level-reached _ _ _ (p .1 .1 .1 .1 .1 .0 .few)),
+            ),
+          ),
+        ),
+      ),
+    )
 
 slice-reshare-prefix-sig : tie.Need-slice-reshare-prefix-sig
 slice-reshare-prefix-sig c =
@@ -72,16 +90,20 @@ mix-at-requires c κs =
 returns : tie.Need-returns
 unfolding valueAt pitchAt
 returns c =
-    let a = c .before .before .before .before .before .before .before .before .before .before .before .before .before .before .before .before .before .before .before .args in
-    let p = c .before .before .before .before .before .before .before .before .before .before .before .before .before .before .before .before .before .before .before .pre in
-    let fits = fits-in (c .before .before .before .before .before .before .before .before .before .before .before .before .before .before .before .before .before .before .before) in
-    let v = c .before .before .before .before .before .before .before .before .before .voice-note in
+    let b9 = c .before .before .before .before .before .before .before .before .before in
+    let b12 = c .before .before .before .before .before .before .before .before .before .before .before .before in
+    let b13 = c .before .before .before .before .before .before .before .before .before .before .before .before .before in
+    let b19 = c .before .before .before .before .before .before .before .before .before .before .before .before .before .before .before .before .before .before .before in
+    let a = b19 .args in
+    let p = b19 .pre in
+    let fits = fits-in (b19) in
+    let v = b9 .voice-note in
     let len : length (v .last .1 .1 .1 .1 .1 .1 .1 .1 .0) ≡ a .place .sounded = v .kept .1 .1 .1 .1 .1 .1 .1 .1 .0 ∙ length-take-le (a .place .sounded) (a .note-buf .now) fits in
     let took = length-take-le (a .place .sounded) (a .note-buf .now) fits in
     let heard = take-at (v .last .1 .1 .1 .1 .1 .1 .1 .1 .0) (drop (a .place .sounded) (a .note-buf .now)) (a .place .sounded) len in (
-      rw (took, c .before .before .before .before .before .before .before .before .before .before .before .before .before .new .ensures) at (v .ensures .0),
+      rw (took, b13 .new .ensures) at (v .ensures .0),
       (
-        c .before .before .mix-at .ensures ∙ rw (heard, v .ensures .1 .0, took, c .before .before .before .before .before .before .before .before .before .before .before .before .before .new .ensures, c .before .before .before .before .before .before .before .before .before .before .before .before .new2 .ensures),
+        c .before .before .mix-at .ensures ∙ rw (heard, v .ensures .1 .0, took, b13 .new .ensures, b12 .new2 .ensures),
         (kept-past (length (a .out .now)) (v .last .1 .1 .1 .1 .1 .1 .1 .1 .0) (a .note-buf .now) (a .place .sounded) len (omega (arith, p .1 .1 .1 .0)), v .ensures .1 .1),
       ),
     )

@@ -6,12 +6,14 @@ use Rattle.score_vectors.proofs.map_of.Statement.{statement}
 use Rattle.score_vectors.proofs.map_of.Tie as tie
 
 slice-aggregate-map-of : tie.Need-slice-aggregate-map-of
-slice-aggregate-map-of c = sym (length-take-le (c .before .before .length-field5 .result) (c .before .point-words .result) (search needs))
+slice-aggregate-map-of c = sym (length-take-le (c .before .before .length-field6 .result) (c .before .point-words .result) (search needs))
 
 pub map-of-spec : {M : Type 1} → statement M
 map-of-spec =
     tie.close
     (tie.spec
+    (λ c κs. search needs)
+    (λ c. search needs)
     (λ c κs. search needs)
     (λ c. search needs)
     (λ c κs. search needs)

@@ -6,7 +6,10 @@ use Rattle.score_vectors.proofs.voice_of.Statement.{statement}
 use Rattle.score_vectors.proofs.voice_of.Tie as tie
 
 slice-aggregate-voice-at : tie.Need-slice-aggregate-voice-at
-slice-aggregate-voice-at c = sym (length-take-le (c .before .before .before .length-field .result) (c .before .before .floats .result) (search needs))
+slice-aggregate-voice-at c = sym (length-take-le (c .before .before .before .before .before .length-field .result) (c .before .before .floats .result) (search needs))
+
+slice-aggregate-voice-at-2 : tie.Need-slice-aggregate-voice-at-2
+slice-aggregate-voice-at-2 c = sym (length-take-le (c .before .before .before .before .before .length-field2 .result) (c .before .before .floats2 .result) (search needs))
 
 pub voice-of-spec : {M : Type 1} → statement M
 voice-of-spec =
@@ -15,7 +18,12 @@ voice-of-spec =
     (λ c κs. search needs)
     (λ c κs. search needs)
     (λ c κs. search needs)
+    (λ c κs. search needs)
+    (λ c. search needs)
+    (λ c κs. search needs)
     (λ c. search needs)
     slice-aggregate-voice-at
+    (λ c. search needs)
+    slice-aggregate-voice-at-2
     (λ c κs. search needs)
     (λ c. search needs))

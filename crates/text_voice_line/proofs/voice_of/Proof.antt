@@ -31,8 +31,19 @@ returns-5 : tie.Need-returns-5
 unfolding voiceOf
 returns-5 c =
     let b3 = c .before .before .before in
-    if-false _ (ne-eqb _ _ (b3 .before .if1 .left))
-    (if-false _ (ne-eqb _ _ (b3 .if2 .left)) (if-false _ (ne-eqb _ _ (c .before .before .if3 .left)) (if-false _ (ne-eqb _ _ (c .before .if4 .left)) (c .voice-with5 .ensures))))
+    let b5 = b3 .before .before in
+    if-false _ (ne-eqb _ _ (b5 .if1 .left))
+    (if-false _ (ne-eqb _ _ (b3 .before .if2 .left)) (if-false _ (ne-eqb _ _ (b3 .if3 .left))
+    (if-false _ (ne-eqb _ _ (c .before .before .if4 .left)) (if-true _ (eq-eqb _ _ (c .before .if5 .taken)) (c .voice-with5 .ensures)))))
+
+returns-6 : tie.Need-returns-6
+unfolding voiceOf
+returns-6 c =
+    let b3 = c .before .before .before in
+    let b5 = b3 .before .before in
+    if-false _ (ne-eqb _ _ (b5 .if1 .left))
+    (if-false _ (ne-eqb _ _ (b3 .before .if2 .left)) (if-false _ (ne-eqb _ _ (b3 .if3 .left))
+    (if-false _ (ne-eqb _ _ (c .before .before .if4 .left)) (if-false _ (ne-eqb _ _ (c .before .if5 .left)) (c .voice-with6 .ensures)))))
 
 pub voice-of-spec : {M : Type 1} → statement M
 voice-of-spec =
@@ -48,4 +59,6 @@ voice-of-spec =
     (λ c κs. search needs)
     returns-4
     (λ c κs. search needs)
-    returns-5)
+    returns-5
+    (λ c κs. search needs)
+    returns-6)

@@ -210,7 +210,7 @@ returns-10 c =
     rw (c .before .before .before .before .enum-told9 .given .1) (undrawn (c .before .before .before .before .before .before .before .before .before .before .before), (note, refl))
 
 same-length-12 : tie.Need-same-length-12
-same-length-12 c = c .before .before .organ-note .kept .1 .1 .1 .0
+same-length-12 c = c .before .before .organ-note .kept .1 .1 .1 .1 .0
 
 returns-11 : tie.Need-returns-11
 unfolding drawsOf waveFrames

@@ -6,15 +6,22 @@ use Rattle.voice_organ.proofs.organ_at.Tie as tie
 frame-time-requires : tie.Need-frame-time-requires
 frame-time-requires c κs = c .pre
 
+-- the percussion's sine is computed before the bars
+fourth-sine-requires : tie.Need-fourth-sine-requires
+fourth-sine-requires c κs = c .sin .ensures
+
 returns : tie.Need-returns
 returns c =
-    organ-frame _ _ _ _
-    (c .before .before .before .before .before .before .before .before .frame-time .ensures)
-    (c .before .before .before .before .before .before .before .sin .ensures)
-    (c .before .before .before .before .before .before .sin2 .ensures)
-    (c .before .before .before .before .before .sin3 .ensures)
-    (c .before .before .before .before .sin4 .ensures)
-    (c .before .before .before .sin5 .ensures)
+    let b8 = c .before .before .before .before .before .before .before .before in
+    let b16 = b8 .before .before .before .before .before .before .before .before in
+    organ-frame _ _ _ _ _ _
+    (b16 .before .before .frame-time .ensures)
+    (b16 .before .sin .ensures)
+    (b8 .before .before .before .before .before .before .sin2 .ensures)
+    (b8 .before .before .before .sin3 .ensures)
+    (b8 .sin4 .ensures)
+    (b16 .fourth-sine .ensures)
+    (c .before .before .before .before .sin5 .ensures)
     (c .before .before .exp .ensures)
     (c .before .max-f32 .ensures)
     (c .wrap .ensures)
@@ -25,6 +32,7 @@ organ-at-spec =
     (tie.spec
     frame-time-requires
     (λ c κs. tt)
+    fourth-sine-requires
     (λ c κs. tt)
     (λ c κs. tt)
     (λ c κs. tt)

@@ -6,24 +6,24 @@ use lib.ListN.{length}
 use Rattle.laws.proofs.Fill.{Filled, filled-none, filled-more, filled-frames, filled-length}
 use Rattle.dsl.specs.Pitch.{pitchAt}
 use Rattle.dsl.proofs.Reach.{reaches-less}
-use Rattle.voice_organ.specs.Organ.{organAt, organFrames}
+use Rattle.voice_organ.specs.Organ.{organNorm, organAt, organFrames}
 use Rattle.voice_organ.proofs.organ_note.Statement.{statement}
 use Rattle.voice_organ.proofs.organ_note.Tie as tie
 
 abbrev Inv-loop : tie.InvT-loop
-Inv-loop pitch lane srf out₀ s₀ i₀ out s i = Filled (λ i. organAt (pitchAt pitch lane i) srf i) (λ r. r .sample) (λ r. r .state) s₀ out₀ i out s
+Inv-loop bars pitch lane srf out₀ norm s₀ i₀ out s i = Filled (λ i. organAt bars (organNorm bars) (pitchAt pitch lane i) srf i) (λ r. r .sample) (λ r. r .state) s₀ out₀ i out s
 
 abbrev μ-loop : tie.MeasureT-loop
-μ-loop pitch lane srf out₀ s₀ i₀ out s i = length out₀ - i
+μ-loop bars pitch lane srf out₀ norm s₀ i₀ out s i = length out₀ - i
 
 loop-holds : tie.Need-loop-holds Inv-loop μ-loop
 loop-holds c = filled-none
 
 at-requires : tie.Need-at-requires Inv-loop μ-loop
-at-requires c κs = reaches-less (c .before .before .before .before .args .pitch) _ _ _ (c .before .before .before .before .pre .0) (omega (arith, filled-length (c .before .loop .inv)))
+at-requires c κs = reaches-less (c .before .before .before .before .before .args .pitch) _ _ _ (c .before .before .before .before .before .pre .0) (omega (arith, filled-length (c .before .loop .inv)))
 
 organ-at-requires : tie.Need-organ-at-requires Inv-loop μ-loop
-organ-at-requires c κs = record { most = omega (arith, filled-length (c .before .before .loop .inv), c .before .before .before .before .before .pre .1 .most) }
+organ-at-requires c κs = record { most = omega (arith, filled-length (c .before .before .loop .inv), c .before .before .before .before .before .before .pre .1 .most) }
 
 slice-write-out : tie.Need-slice-write-out Inv-loop μ-loop
 slice-write-out c = omega (arith, filled-length (c .before .before .before .loop .inv))
@@ -34,7 +34,7 @@ loop-less c = omega (arith, filled-length (c .before .before .before .loop .inv)
 loop-again : tie.Need-loop-again Inv-loop μ-loop
 loop-again c =
     let inv = c .before .before .before .loop .inv in
-    filled-more inv (omega (arith, filled-length inv)) (rw (c .before .at .ensures) at (c .organ-at .ensures))
+    filled-more inv (omega (arith, filled-length inv)) (rw (c .before .before .before .before .norm-of .ensures, c .before .at .ensures) at (c .organ-at .ensures))
 
 same-length : tie.Need-same-length Inv-loop μ-loop
 same-length c = filled-length (c .before .loop .inv)
@@ -49,6 +49,7 @@ organ-note-spec =
     (tie.spec
     Inv-loop
     μ-loop
+    (λ c κs. tt)
     loop-holds
     at-requires
     organ-at-requires

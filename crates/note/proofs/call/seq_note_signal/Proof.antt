@@ -16,8 +16,11 @@ shared-slice-read-draw-count c = (accepted-note-facts _ (sym (sym (c .before .en
 
 voice-note-requires : tie.Need-voice-note-requires
 voice-note-requires c κs =
-    let f = accepted-note-facts _ (sym (sym (c .before .before .before .before .before .enum-told .given .1) ∙ c .before .before .before .before .before .before .before .note-call-verdict .ensures)) in
-    let a = c .before .before .before .before .before .before .before .before .before .before .before .before .args in
+    let b5 = c .before .before .before .before .before in
+    let b7 = c .before .before .before .before .before .before .before in
+    let b12 = c .before .before .before .before .before .before .before .before .before .before .before .before in
+    let f = accepted-note-facts _ (sym (sym (b5 .enum-told .given .1) ∙ b7 .note-call-verdict .ensures)) in
+    let a = b12 .args in
     let some = f .some in
     let frames = f .frames in
     let duties = f .duties in
@@ -41,10 +44,15 @@ voice-note-requires c κs =
 
 returns-2 : tie.Need-returns-2
 returns-2 c =
-    let voice = c .before .before .before .before .voice-note in
-    let is = c .before .before .before .before .before .before .before .new .ensures in
-    let fine = sym (c .before .before .before .before .before .before .before .before .before .before .enum-told .given .1) ∙ c .before .before .before .before .before .before .before .before .before .before .before .before .note-call-verdict .ensures in
-    accepted-note _ fine (voice .result) (c .before .before .before .before .before .before .before .before .draw-count .result) (c .before .before .before .before .before .before .before .before .draw-count .ensures) (rw is at (voice .ensures .0)) refl (rw is at (voice .ensures .1 .0)) (voice .ensures .1 .1)
+    let b4 = c .before .before .before .before in
+    let b7 = c .before .before .before .before .before .before .before in
+    let b8 = c .before .before .before .before .before .before .before .before in
+    let b10 = c .before .before .before .before .before .before .before .before .before .before in
+    let b12 = c .before .before .before .before .before .before .before .before .before .before .before .before in
+    let voice = b4 .voice-note in
+    let is = b7 .new .ensures in
+    let fine = sym (b10 .enum-told .given .1) ∙ b12 .note-call-verdict .ensures in
+    accepted-note _ fine (voice .result) (b8 .draw-count .result) (b8 .draw-count .ensures) (rw is at (voice .ensures .0)) refl (rw is at (voice .ensures .1 .0)) (voice .ensures .1 .1)
 
 pub seq-note-signal-spec : {M : Type 1} → statement M
 seq-note-signal-spec =

@@ -20,10 +20,14 @@ returns c = none-named _ (eight (c .before .before .before .before .before .befo
 
 returns-2 : tie.Need-returns-2
 returns-2 c =
-    let one = c .before .before .before .before .before .before .before .before .before .render-station .result in
-    let at = c .before .before .before .before .before .before .before .before .before .before .before .before .before .before .before .before .before .before .before .before in
-    let scored = rw (c .before .before .before .before .before .before .before .before .before .before .before .before .before .station .ensures) at (c .before .before .before .before .before .before .before .before .before .render-station .ensures) in
-    let few : at .args .station < 8 = omega (arith, c .before .before .before .before .before .before .before .before .before .before .before .before .before .before .if1 .left) in
+    let b9 = c .before .before .before .before .before .before .before .before .before in
+    let b13 = c .before .before .before .before .before .before .before .before .before .before .before .before .before in
+    let b14 = c .before .before .before .before .before .before .before .before .before .before .before .before .before .before in
+    let b20 = c .before .before .before .before .before .before .before .before .before .before .before .before .before .before .before .before .before .before .before .before in
+    let one = b9 .render-station .result in
+    let at = b20 in
+    let scored = rw (b13 .station .ensures) at (b9 .render-station .ensures) in
+    let few : at .args .station < 8 = omega (arith, b14 .if1 .left) in
     put-back _ (eight at) _ few one scored (λ j. record { session = c .with-draw .ensures j; rng = one .station .rng; outcome = one .outcome })
 
 pub render-seq-spec : {M : Type 1} → statement M

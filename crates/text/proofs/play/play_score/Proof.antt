@@ -27,46 +27,62 @@ slice-aggregate-out c =
 
 array-share-prefix-frames : tie.Need-array-share-prefix-frames
 array-share-prefix-frames c =
-    let a = c .before .before .before .before .before .before .before .before .before .before .before .before .before .before .before .before .before .args in
-    let l = c .before .before .before .before .before .before .before .before .before .before .before .before .before .before .frames-buffer .result in
-    let fits : a .n ≤ length l = omega (arith, c .before .before .before .before .before .before .before .before .before .before .before .before .before .before .frames-buffer .ensures, c .before .before .before .before .before .before .before .before .before .before .before .before .before .before .before .before .before .pre .0) in
-    let v = c .before .before .before .before .before .before .render-seq in
+    let b6 = c .before .before .before .before .before .before in
+    let b14 = c .before .before .before .before .before .before .before .before .before .before .before .before .before .before in
+    let b17 = c .before .before .before .before .before .before .before .before .before .before .before .before .before .before .before .before .before in
+    let a = b17 .args in
+    let l = b14 .frames-buffer .result in
+    let fits : a .n ≤ length l = omega (arith, b14 .frames-buffer .ensures, b17 .pre .0) in
+    let v = b6 .render-seq in
     let len : length (v .last .1 .1 .1 .1 .1 .0) ≡ a .n = v .kept .1 .1 .1 .1 .1 .0 ∙ length-take-le (a .n) l fits in
     omega (arith, len, length-append (v .last .1 .1 .1 .1 .1 .0) (drop (a .n) l))
 
 slice-aggregate-print-answer : tie.Need-slice-aggregate-print-answer
 slice-aggregate-print-answer c =
-    let a = c .before .before .before .before .before .before .before .before .before .before .before .before .before .before .before .before .before .before .args in
-    let l = c .before .before .before .before .before .before .before .before .before .before .before .before .before .before .before .frames-buffer .result in
-    let fits : a .n ≤ length l = omega (arith, c .before .before .before .before .before .before .before .before .before .before .before .before .before .before .before .frames-buffer .ensures, c .before .before .before .before .before .before .before .before .before .before .before .before .before .before .before .before .before .before .pre .0) in
-    let v = c .before .before .before .before .before .before .before .render-seq in
+    let b7 = c .before .before .before .before .before .before .before in
+    let b15 = c .before .before .before .before .before .before .before .before .before .before .before .before .before .before .before in
+    let b18 = c .before .before .before .before .before .before .before .before .before .before .before .before .before .before .before .before .before .before in
+    let a = b18 .args in
+    let l = b15 .frames-buffer .result in
+    let fits : a .n ≤ length l = omega (arith, b15 .frames-buffer .ensures, b18 .pre .0) in
+    let v = b7 .render-seq in
     let len : length (v .last .1 .1 .1 .1 .1 .0) ≡ a .n = v .kept .1 .1 .1 .1 .1 .0 ∙ length-take-le (a .n) l fits in
     sym (ap length (take-at (v .last .1 .1 .1 .1 .1 .0) (drop (a .n) l) (a .n) len) ∙ len)
 
 print-answer-requires : tie.Need-print-answer-requires
 print-answer-requires c κs =
-    let a = c .before .before .before .before .before .before .before .before .before .before .before .before .before .before .before .before .before .before .args in
-    let l = c .before .before .before .before .before .before .before .before .before .before .before .before .before .before .before .frames-buffer .result in
-    let fits : a .n ≤ length l = omega (arith, c .before .before .before .before .before .before .before .before .before .before .before .before .before .before .before .frames-buffer .ensures, c .before .before .before .before .before .before .before .before .before .before .before .before .before .before .before .before .before .before .pre .0) in
-    let v = c .before .before .before .before .before .before .before .render-seq in
+    let b7 = c .before .before .before .before .before .before .before in
+    let b15 = c .before .before .before .before .before .before .before .before .before .before .before .before .before .before .before in
+    let b18 = c .before .before .before .before .before .before .before .before .before .before .before .before .before .before .before .before .before .before in
+    let a = b18 .args in
+    let l = b15 .frames-buffer .result in
+    let fits : a .n ≤ length l = omega (arith, b15 .frames-buffer .ensures, b18 .pre .0) in
+    let v = b7 .render-seq in
     let len : length (v .last .1 .1 .1 .1 .1 .0) ≡ a .n = v .kept .1 .1 .1 .1 .1 .0 ∙ length-take-le (a .n) l fits in
     let e = ap length (take-at (v .last .1 .1 .1 .1 .1 .0) (drop (a .n) l) (a .n) len) ∙ len in
-    (omega (arith, e, c .before .before .before .before .before .before .before .before .before .before .before .before .before .before .before .before .before .before .pre .0), c .before .before .before .before .before .before .before .before .before .before .before .before .before .before .before .before .before .before .pre .1)
+    (omega (arith, e, b18 .pre .0), b18 .pre .1)
 
 returns : tie.Need-returns
 returns c =
-    let a = c .before .before .before .before .before .before .before .before .before .before .before .before .before .before .before .before .before .before .before .before .before .args in
-    let l = c .before .before .before .before .before .before .before .before .before .before .before .before .before .before .before .before .before .before .frames-buffer .result in
-    let fits : a .n ≤ length l = omega (arith, c .before .before .before .before .before .before .before .before .before .before .before .before .before .before .before .before .before .before .frames-buffer .ensures, c .before .before .before .before .before .before .before .before .before .before .before .before .before .before .before .before .before .before .before .before .before .pre .0) in
-    let v = c .before .before .before .before .before .before .before .before .before .before .render-seq in
+    let b5 = c .before .before .before .before .before in
+    let b10 = c .before .before .before .before .before .before .before .before .before .before in
+    let b15 = c .before .before .before .before .before .before .before .before .before .before .before .before .before .before .before in
+    let b16 = c .before .before .before .before .before .before .before .before .before .before .before .before .before .before .before .before in
+    let b17 = c .before .before .before .before .before .before .before .before .before .before .before .before .before .before .before .before .before in
+    let b18 = c .before .before .before .before .before .before .before .before .before .before .before .before .before .before .before .before .before .before in
+    let b21 = c .before .before .before .before .before .before .before .before .before .before .before .before .before .before .before .before .before .before .before .before .before in
+    let a = b21 .args in
+    let l = b18 .frames-buffer .result in
+    let fits : a .n ≤ length l = omega (arith, b18 .frames-buffer .ensures, b21 .pre .0) in
+    let v = b10 .render-seq in
     let len : length (v .last .1 .1 .1 .1 .1 .0) ≡ a .n = v .kept .1 .1 .1 .1 .1 .0 ∙ length-take-le (a .n) l fits in
     let heard = take-at (v .last .1 .1 .1 .1 .1 .0) (drop (a .n) l) (a .n) len in
-    let printed = rw (heard, c .before .before .before .before .before .station .ensures) at (c .before .before .print-answer .ensures) in
-    let room = sym (c .before .before .before .before .before .before .before .before .before .before .before .before .before .before .before .before .before .frames-buffer2 .ensures) in
-    let string = sym (c .before .before .before .before .before .before .before .before .before .before .before .before .before .before .before .before .string-buffer .ensures) in
+    let printed = rw (heard, b5 .station .ensures) at (c .before .before .print-answer .ensures) in
+    let room = sym (b17 .frames-buffer2 .ensures) in
+    let string = sym (b16 .string-buffer .ensures) in
     let n = length-take-le (a .n) l fits in
     printed-as
-    (played-by (a .seq) (a .notes .now) (a .n) (a .seed) (a .draw) _ _ (c .before .before .before .before .before .before .before .before .before .before .before .before .before .before .before .«open» .ensures) refl (v .ensures)
+    (played-by (a .seq) (a .notes .now) (a .n) (a .seed) (a .draw) _ _ (b15 .«open» .ensures) refl (v .ensures)
     (λ j. record { seq = a .seq; notes = a .notes .now; lane = []; n = n j; room = room j; string = string j }))
     printed
 
