@@ -2,8 +2,8 @@
 
 use crate::engine::Count;
 use crate::{
-    boards, drawbars, helpers, hop_calls, kernels, mapped_calls, note_calls, progress, random,
-    score_calls, station_calls, texts, tones, voices, wave_files,
+    boards, drawbars, helpers, hop_calls, kernels, kits, mapped_calls, note_calls, progress,
+    random, score_calls, station_calls, texts, tones, voices, wave_files,
 };
 use std::process::{Command, Stdio};
 
@@ -14,11 +14,12 @@ const TEXTS: u64 = 1_000_000;
 /// One row of the table: what is compared, with what, and the run of one case in a number.
 type Part = (&'static str, &'static str, fn(u64) -> Count);
 
-const PARTS: [Part; 15] = [
+const PARTS: [Part; 16] = [
     ("float helpers", "Rust's operations", helpers::run),
     ("kernels", "det.rs and the request's words", |scale| {
         kernels::run_all(kernels::COUNT.div_ceil(scale), scale)
     }),
+    ("numbers of the drum kit", "dsp.rs and kit.rs", kits::run),
     ("quarter tones", "the rule in whole numbers", tones::run),
     ("notes of each wave", "seq_note_signal", |scale| {
         voices::run(voices::COUNT.div_ceil(scale))

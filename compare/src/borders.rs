@@ -26,6 +26,34 @@ pub const WHOLE: [u64; 7] = [
 /// 2^63 and 2^64.
 pub const INTEGER_ENDS: [u64; 2] = [0x5f00_0000, 0x5f80_0000];
 
+/// 2^31.
+pub const INTEGER_ENDS_32: [u64; 1] = [0x4f00_0000];
+
+/// What a remainder is taken of, and by, with either sign: zero, the least subnormals, the largest, the
+/// least normals, 0.01, 1, 1.5, 3, numbers far apart, the largest, infinity and a NaN.
+pub const REMAINDERS: [u32; 20] = [
+    0,
+    1,
+    3,
+    0x007f_ffff,
+    0x0080_0000,
+    0x0080_0001,
+    0x00ff_ffff,
+    0x0100_0000,
+    0x0b12_3456,
+    0x3c23_d70a,
+    0x3cf5_c28f,
+    0x3f80_0000,
+    0x3fc0_0000,
+    0x4040_0000,
+    0x4b00_0001,
+    0x4b80_0000,
+    0x7eff_ffff,
+    0x7f7f_ffff,
+    0x7f80_0000,
+    0x7fc0_0000,
+];
+
 /// 2, 4 and 2^-148, a subnormal: about these are squares and values with no exact root.
 pub const SQUARES: [u64; 3] = [0x4000_0000, 0x4080_0000, 0x0000_0002];
 

@@ -1,5 +1,6 @@
-//! f64 patterns to try the helpers on.
+//! Patterns to try the helpers on.
 
+use crate::borders::REMAINDERS;
 use crate::random::draw_at;
 
 /// Patterns that are tried first, without their sign: zero, the least and the largest subnormal of
@@ -58,6 +59,41 @@ pub fn f64_pair(i: u64) -> (f64, f64) {
         3 => (f64::from_bits(b.to_bits().wrapping_add(1)), b),
         _ => (a, b),
     }
+}
+
+/// Case number i of two f32: the borders with both signs in every pair, then seven kinds in turn.
+pub fn f32_pair(i: u64) -> (f32, f32) {
+    let each = 2 * REMAINDERS.len() as u64;
+    if i < each * each {
+        return (border(i / each), border(i % each));
+    }
+    let r = draw_at(6, i);
+    let (x, y) = (r as u32, (r >> 32) as u32);
+    let [a, b] = [x, y].map(f32::from_bits);
+    let times = (draw_at(7, i) % 1_000_000) as f32;
+    match i % 7 {
+        // any two
+        0 => (a, b),
+        // near exponents
+        1 => (a, f32::from_bits(y & 0x807f_ffff | x & 0x7f80_0000)),
+        // about a multiple
+        2 => (f32::from_bits((b * times).to_bits().wrapping_add(x % 3)), b),
+        // by a subnormal
+        3 => (a, f32::from_bits(y & 0x807f_ffff)),
+        // of two subnormals
+        4 => (
+            f32::from_bits(x & 0x807f_ffff),
+            f32::from_bits(y & 0x8000_ffff),
+        ),
+        // the drum kit's: a frame's time by 0.01
+        5 => ((x % 1_000_000) as f32 / (8000 + y % 184_001) as f32, 0.01),
+        // any by a whole number
+        _ => (a, times),
+    }
+}
+
+fn border(i: u64) -> f32 {
+    f32::from_bits(REMAINDERS[(i / 2) as usize] | (i as u32) << 31)
 }
 
 /// The pattern, or that of the f64 just below or above.

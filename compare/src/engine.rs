@@ -78,6 +78,24 @@ impl Answer for usize {
     }
 }
 
+impl Answer for u64 {
+    fn same(self, other: u64) -> bool {
+        self == other
+    }
+    fn show(self) -> String {
+        format!("{self:016x}")
+    }
+}
+
+impl Answer for i32 {
+    fn same(self, other: i32) -> bool {
+        self == other
+    }
+    fn show(self) -> String {
+        self.to_string()
+    }
+}
+
 impl Answer for i64 {
     fn same(self, other: i64) -> bool {
         self == other

@@ -15,6 +15,9 @@ unsafe extern "C" {
     pub safe fn h_trunc64(x: f64) -> f64;
     pub safe fn h_usize(x: f32) -> usize;
     pub safe fn h_i64(x: f64) -> i64;
+    pub safe fn h_i32(x: f32) -> i32;
+    pub safe fn h_signum(x: f32) -> f32;
+    pub safe fn h_rem(x: f32, y: f32) -> f32;
     pub safe fn h_usize64(x: f64) -> usize;
     pub safe fn h_max64(a: f64, b: f64) -> f64;
     pub safe fn h_draw(state: u64) -> u64;
@@ -32,6 +35,10 @@ unsafe extern "C" {
     pub safe fn h_lnf(x: f32) -> f32;
     pub safe fn h_tanhf(x: f32) -> f32;
     pub safe fn h_powff(x: f32, y: f32) -> f32;
+    pub safe fn h_log2(x: f32) -> f32;
+    pub safe fn h_hz_to_midi(hz: f32) -> f32;
+    pub safe fn h_midi(first: f32) -> i32;
+    pub safe fn h_kit_draws(style: u32, midi: i32, rate: u32, frames: usize) -> usize;
     pub safe fn tono_exp(x: f64) -> f64;
 }
 

@@ -32,6 +32,8 @@ mod plain {
         trunc64(x: f64) -> f64 { x.trunc() }
         round64(x: f64) -> f64 { x.round() }
         sqrt(x: f32) -> f32 { x.sqrt() }
+        rem(x: f32) -> f32 { x % 0.01 }
+        signum(x: f32) -> f32 { x.signum() }
         to_i64(x: f64) -> i64 { x as i64 }
         to_usize(x: f32) -> usize { x as usize }
         to_usize64(x: f64) -> usize { x as usize }
@@ -88,6 +90,10 @@ pub fn run() {
     row("trunc64", &turns, |x| h_trunc64(x), |x| plain::trunc64(x));
     row("round64", &turns, |x| h_round64(x), |x| plain::round64(x));
     row("sqrt", &phases, |x| h_sqrt(x), |x| plain::sqrt(x));
+    let seconds = spread_f32(0.0, 2.0);
+    row("rem", &seconds, |x| h_rem(x, 0.01), |x| plain::rem(x));
+    let waves = spread_f32(-1.0, 1.0);
+    row("signum", &waves, |x| h_signum(x), |x| plain::signum(x));
     row("i64", &turns, |x| h_i64(x), |x| plain::to_i64(x));
     let frames = spread_f32(0.0, 200_000.0);
     row("usize", &frames, |x| h_usize(x), |x| plain::to_usize(x));

@@ -1,12 +1,13 @@
 //! The float helpers against Rust's own operations.
 
-use crate::cases::{f64_case, f64_pair};
+use crate::cases::{f32_pair, f64_case, f64_pair};
 use crate::engine::{compare, Cases, Count};
 use crate::harness::*;
 
 const F32_PATTERNS: u64 = 1 << 32;
 const F64_CASES: u64 = 1_000_000_000;
 const F64_PAIRS: u64 = 100_000_000;
+const F32_PAIRS: u64 = 1_000_000_000;
 
 /// Compares every function on one in `scale` of the cases.
 pub fn run(scale: u64) -> Count {
@@ -22,6 +23,10 @@ pub fn run(scale: u64) -> Count {
         count: F64_PAIRS.div_ceil(scale),
         case: f64_pair,
     };
+    let remainders = Cases {
+        count: F32_PAIRS.div_ceil(scale),
+        case: f32_pair,
+    };
     let count = compare("floor", &single, |x| h_floor(x), f32::floor)
         + compare("trunc", &single, |x| h_trunc(x), f32::trunc)
         + compare("round", &single, |x| h_round(x), f32::round)
@@ -29,6 +34,9 @@ pub fn run(scale: u64) -> Count {
         + compare("sqrt", &single, |x| h_sqrt(x), f32::sqrt)
         + compare("abs", &single, |x| h_abs(x), f32::abs)
         + compare("usize", &single, |x| h_usize(x), |x| x as usize)
+        + compare("i32", &single, |x| h_i32(x), |x| x as i32)
+        + compare("signum", &single, |x| h_signum(x), f32::signum)
+        + compare("rem", &remainders, |(x, y)| h_rem(x, y), |(x, y)| x % y)
         + compare("widen", &single, |x| h_widen(x), |x| x as f64)
         + compare("narrow", &double, |x| h_narrow(x), |x| x as f32)
         + compare("floor64", &double, |x| h_floor64(x), f64::floor)

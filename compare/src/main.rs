@@ -29,6 +29,7 @@ mod hop_random;
 mod kernel_bench;
 mod kernel_vectors;
 mod kernels;
+mod kits;
 mod lent;
 mod libm;
 mod long_scores;
@@ -91,6 +92,7 @@ const USAGE: &str =
        compare kernel-bench      nanoseconds a call of the f32 kernels, library and original
        compare kernel-vectors    writes the replay files of crates/det_vectors
        compare libm [SCALE]      where the original's f32 kernels and libm part
+       compare kits [SCALE]      the drum's number and the draws of hits; one in SCALE of the pitches and rates
        compare tones [SCALE]     every q of the quarter tones; one in SCALE of those above 65,535
        compare voices [COUNT]    COUNT notes of each wave, 10^5 by default
        compare notes [COUNT]     COUNT note calls of every outcome, 10^6 by default
@@ -134,6 +136,8 @@ fn main() -> ExitCode {
         ["kernels", "all"] => status(kernels::run_all(kernels::COUNT, 1)),
         ["kernels", count] => counted(count, kernels::run),
         ["kernel-bench"] => done(kernel_bench::run()),
+        ["kits"] => status(kits::run(1)),
+        ["kits", scale] => scaled(scale, |scale| status(kits::run(scale))),
         ["tones"] => status(tones::run(1)),
         ["tones", scale] => scaled(scale, |scale| status(tones::run(scale))),
         ["voices"] => status(voices::run(voices::COUNT)),

@@ -54,6 +54,18 @@ impl Replay {
         }
     }
 
+    /// Each pair with three of the four signs; a remainder's sign is that of the first.
+    fn remainders(&mut self) {
+        for a in REMAINDERS {
+            for b in REMAINDERS {
+                for (a, b) in [(a, b), (a | 1 << 31, b), (a, b | 1 << 31)] {
+                    let answer = f32::from_bits(a) % f32::from_bits(b);
+                    self.push(format!("rem {a:08x} {b:08x}"), single(answer));
+                }
+            }
+        }
+    }
+
     fn pair_64(&mut self, name: &str, rust: impl Fn(f64, f64) -> f64) {
         for a in ORDER_64 {
             for b in ORDER_64 {
@@ -145,11 +157,14 @@ pub fn run() -> io::Result<()> {
     replay.single("round", &whole, |x| single(x.round()));
     replay.single("fract", &whole, |x| single(x.fract()));
     replay.single("abs", &[&BORDERS], |x| single(x.abs()));
+    replay.single("signum", &[&BORDERS], |x| single(x.signum()));
     replay.single("sqrt", &[&BORDERS, &SQUARES], |x| single(x.sqrt()));
     replay.single("bits", &[&BORDERS], single);
     replay.single("widen", &[&BORDERS], |x| double(x as f64));
     let integers: [&[u64]; 3] = [&BORDERS, &WHOLE, &INTEGER_ENDS];
     replay.single("usize", &integers, |x| format!("{:016x}", x as usize));
+    let integers: [&[u64]; 3] = [&BORDERS, &WHOLE, &INTEGER_ENDS_32];
+    replay.single("i32", &integers, |x| format!("{:016x}", x as i32 as i64));
     let whole: [&[u64]; 2] = [&BORDERS_64, &WHOLE_64];
     replay.double("floor64", &whole, |x| double(x.floor()));
     replay.double("trunc64", &whole, |x| double(x.trunc()));
@@ -161,6 +176,7 @@ pub fn run() -> io::Result<()> {
     replay.pair("max", max);
     replay.pair("min", min);
     replay.pair_64("max64", max);
+    replay.remainders();
     replay.clamp();
     replay.write(FOLDER)
 }

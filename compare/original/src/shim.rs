@@ -41,6 +41,11 @@ pub fn note_signal(
     with_voice(voice, &[], |v| seq_note_signal(v, &note, f, d, sr, rng))
 }
 
+/// A hit of the drum kit.
+pub fn hit(f: &[f32], sr: u32, rng: &mut Rng, style: KitStyle) -> Vec<f32> {
+    super::super::kit::kit_drum(f, sr, rng, style)
+}
+
 /// A whole score: by `render_seq_mapped` where it has points.
 pub fn render(
     voice: &Voice,

@@ -12,7 +12,7 @@ use borrow.Author.Tests.{ltb-true, ltb-false}
 use lib.Pow.{pow-pos}
 use lib.Ieee.{Float, binary32, lt, round, odd, size, ofBits}
 use lib.Ieee.Exact.{HasValue}
-use Rattle.ieee.specs.Numbers.{c0·006, f32}
+use Rattle.ieee.specs.Numbers.{c0·002, c0·003, c0·004, c0·006, c0·018, f32}
 use Rattle.ieee.specs.Binary32.{_⊘_}
 use Rattle.ieee.proofs.Value.{same-test}
 use Rattle.ieee.proofs.Exactly.{round-value}
@@ -61,22 +61,22 @@ pub c0·006-fraction : Fraction c0·006 3 500
 unfolding ofBits round odd size
 c0·006-fraction = fraction 12884901 31 444 (refl, refl) (refl, refl) (tt, tt, tt, tt, tt)
 
--- the noises of the drum kit: 0.002, 0.003, 0.004 and 0.018
-pub c0·002-fraction : Fraction (ofBits binary32 0x3b03126f) 1 500
+-- the noises of the drum kit: 2, 3, 4 and 18 thousandths of a second
+pub c0·002-fraction : Fraction c0·002 2 1000
 unfolding ofBits round odd size
-c0·002-fraction = fraction 8589934 32 296 (refl, refl) (refl, refl) (tt, tt, tt, tt, tt)
+c0·002-fraction = fraction 8589934 32 592 (refl, refl) (refl, refl) (tt, tt, tt, tt, tt)
 
-pub c0·003-fraction : Fraction (ofBits binary32 0x3b449ba6) 3 1000
+pub c0·003-fraction : Fraction c0·003 3 1000
 unfolding ofBits round odd size
 c0·003-fraction = fraction 12884901 32 888 (refl, refl) (refl, refl) (tt, tt, tt, tt, tt)
 
-pub c0·004-fraction : Fraction (ofBits binary32 0x3b83126f) 1 250
+pub c0·004-fraction : Fraction c0·004 4 1000
 unfolding ofBits round odd size
-c0·004-fraction = fraction 8589934 31 148 (refl, refl) (refl, refl) (tt, tt, tt, tt, tt)
+c0·004-fraction = fraction 8589934 31 592 (refl, refl) (refl, refl) (tt, tt, tt, tt, tt)
 
-pub c0·018-fraction : Fraction (ofBits binary32 0x3c9374bc) 9 500
+pub c0·018-fraction : Fraction c0·018 18 1000
 unfolding ofBits round odd size
-c0·018-fraction = fraction 9663675 29 708 (refl, refl) (refl, refl) (tt, tt, tt, tt, tt)
+c0·018-fraction = fraction 9663675 29 1416 (refl, refl) (refl, refl) (tt, tt, tt, tt, tt)
 
 -- ---- on which side i / rate lies
 early : (i rate p q b d M : ℕ) → 0 < q → rate ≤ 192000 → q * i < p * rate → p * M ≤ q * b + d → 192000 * d ≤ M → i * 1 * M ≤ b * (rate * 1)
@@ -98,7 +98,7 @@ early i rate p q b d M Q most h near small =
         let c : rate * 1 ≡ rate = omega arith in
         rw (a, c, ← e, ← g) l
 
-passing-first : (test : ℕ → Bool) (h n : ℕ) → ((i : ℕ) → i < n → test i ≡ ltb i h) → passing test n ≡ min n h
+pub passing-first : (test : ℕ → Bool) (h n : ℕ) → ((i : ℕ) → i < n → test i ≡ ltb i h) → passing test n ≡ min n h
 unfolding passing
 passing-first test h zero p = omega arith
 passing-first test h (suc n) p = go (ltb n h) refl (p n (omega arith)) (passing-first test h n (λ i l. p i (omega arith)))

@@ -1,4 +1,5 @@
 pub mod Wave
+pub mod Kit
 pub mod Sized
 pub mod Knobs
 pub mod Drawbars

@@ -1,10 +1,13 @@
 // dsl/node.rs and dsl/mod.rs: what a score is written in. Everything here is taken by value.
+mod kit; // kit.rt: the drum kit's styles
 mod knobs; // knobs.rt: the knob sets, the drawbars and the envelope
 mod note; // note.rt: a note, and its decoding from five words
 mod pitch; // pitch.rt: a number in hertz or a curve
 mod sized; // sized.rt: numbers of the domain
 mod wave; // wave.rt: the waves and their places
 
+pub use kit::KitStyle;
+pub use kit::StyleAt;
 pub use knobs::Adsr;
 pub use knobs::BassKnobs;
 pub use knobs::Drawbars;

@@ -1,6 +1,7 @@
-// dsp.rs: the kernels of `trig` and `det` at f32, under the names that the voices call, and `one_pole`.
+// dsp.rs: the kernels of `trig` and `det` at f32, under the names that the voices call, `one_pole`, and
+// the MIDI number of a pitch.
 ghost use mathlib.Core.Path.{_≡_};
-ghost use Rattle.dsp.specs.Kernels.{sinOf, cosOf, expOf, powfOf, tanhOf, onePole};
+ghost use Rattle.dsp.specs.Kernels.{sinOf, cosOf, expOf, powfOf, tanhOf, onePole, log2Of, hzToMidi};
 
 pub const TAU: f32 = 6.28318530717958647692528676655900577; // 40c90fdb
 
@@ -39,4 +40,18 @@ pub fn one_pole(secs: f32, sr: f32) -> f32
     ensures { λ r. ⌜ r ≡ onePole secs sr ⌝ }
 {
     exp(-1.0 / (secs * sr))
+}
+
+// The base-2 logarithm: both logarithms are f32, and so is the quotient.
+pub fn log2(x: f32) -> f32
+    ensures { λ r. ⌜ r ≡ log2Of x ⌝ }
+{
+    det::lnf(x) / det::lnf(2.0)
+}
+
+// The MIDI number of a pitch in hertz, with its fraction; 440 is 69.
+pub fn hz_to_midi(hz: f32) -> f32
+    ensures { λ r. ⌜ r ≡ hzToMidi hz ⌝ }
+{
+    69.0 + 12.0 * log2(hz / 440.0)
 }

@@ -2,3 +2,5 @@ mod Wholes
 pub mod Signs
 mod Casting
 pub mod Signed
+mod Highest
+mod Narrower

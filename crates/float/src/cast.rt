@@ -30,6 +30,22 @@ pub fn f64_to_usize(x: f64) -> usize
 }
 
 // A NaN fails the first and the last test.
+pub fn f32_to_i32(x: f32) -> i32
+    ensures { λ r. ⌜ r ≡ toSigned 31 x ⌝ }
+{
+    if x >= -2147483648.0 {
+        if x < 2147483648.0 {
+            return std::num::truncating_f32_to_i64(x) as i32;
+        }
+        return i32::MAX;
+    }
+    if x < 0.0 {
+        return i32::MIN;
+    }
+    0
+}
+
+// A NaN fails the first and the last test.
 pub fn f64_to_i64(x: f64) -> i64
     ensures { λ r. ⌜ r ≡ toSigned 63 x ⌝ }
 {

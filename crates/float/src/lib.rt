@@ -2,11 +2,12 @@
 // has a result for every bit pattern and asks nothing of its caller. Each contract is one equation
 // with a definition, in which one NaN stands for all of them.
 mod cast; // cast.rt: floats to integers
-mod order; // order.rt: max, min, clamp, abs and ranges of an f32
+mod order; // order.rt: max, min, clamp, abs, signum and ranges of an f32
 mod order_f64; // order_f64.rt: max of an f64
 mod whole_f32; // whole_f32.rt: floor, trunc, round and fract of an f32
 mod whole_f64; // whole_f64.rt: floor, trunc and round of an f64
 
+pub use cast::f32_to_i32;
 pub use cast::f32_to_usize;
 pub use cast::f64_to_i64;
 pub use cast::f64_to_usize;
@@ -14,6 +15,7 @@ pub use order::abs_f32;
 pub use order::clamp_f32;
 pub use order::max_f32;
 pub use order::min_f32;
+pub use order::signum_f32;
 pub use order::within_f32;
 pub use order_f64::max_f64;
 pub use whole_f32::floor_f32;

@@ -1,6 +1,6 @@
-// Comparisons that pick one of their arguments, and the absolute value.
+// Comparisons that pick one of their arguments, the absolute value and the sign.
 ghost use mathlib.Core.Path.{_≡_};
-ghost use Rattle.ieee.specs.Sign.{absOf};
+ghost use Rattle.ieee.specs.Sign.{absOf, signumOf};
 ghost use Rattle.ieee.specs.Order.{maxOf, minOf, clampOf, withinOf};
 
 // a if it is above b, else b: of two zeros and at a NaN, b.
@@ -51,4 +51,15 @@ pub fn abs_f32(x: f32) -> f32
         return 0.0;
     }
     -x
+}
+
+// 1 with the sign of x, of a zero too: the pattern of 1 under the highest bit of x.
+pub fn signum_f32(x: f32) -> f32
+    ensures { λ r. ⌜ r ≡ signumOf x ⌝ }
+{
+    if x != x {
+        return x;
+    }
+    let bits = f32::to_bits(x);
+    f32::from_bits(bits - bits % 0x8000_0000 + 0x3f80_0000)
 }

@@ -10,6 +10,7 @@ fn answer_f32(line: &[u8]) {
     vectors::answer_f32(line, b"round", float::round_f32(x));
     vectors::answer_f32(line, b"fract", float::fract_f32(x));
     vectors::answer_f32(line, b"abs", float::abs_f32(x));
+    vectors::answer_f32(line, b"signum", float::signum_f32(x));
     vectors::answer_f32(line, b"sqrt", rounding::sqrt_f32(x));
     vectors::answer_f32(line, b"bits", x);
 }
@@ -22,6 +23,10 @@ fn answer_f64(line: &[u8]) {
     vectors::answer_f64(line, b"round64", float::round_f64(x));
 }
 
+fn print_i32(n: i32) {
+    vectors::print_i64(n as i64);
+}
+
 // Changes of type.
 fn answer_cast(line: &[u8]) {
     let x = vectors::f32_field(line, 1);
@@ -31,12 +36,21 @@ fn answer_cast(line: &[u8]) {
     if vectors::is_named(line, b"usize") {
         vectors::print_u64(float::f32_to_usize(x) as u64);
     }
+    if vectors::is_named(line, b"i32") {
+        print_i32(float::f32_to_i32(x));
+    }
     if vectors::is_named(line, b"usize64") {
         vectors::print_u64(float::f64_to_usize(y) as u64);
     }
     if vectors::is_named(line, b"i64") {
         vectors::print_i64(float::f64_to_i64(y));
     }
+}
+
+fn answer_rem(line: &[u8]) {
+    let x = vectors::f32_field(line, 1);
+    let y = vectors::f32_field(line, 2);
+    vectors::answer_f32(line, b"rem", remainder::rem_f32(x, y));
 }
 
 // Helpers that pick one of their arguments.
@@ -61,6 +75,7 @@ fn replay_line(line: &[u8]) {
     answer_f32(line);
     answer_f64(line);
     answer_cast(line);
+    answer_rem(line);
     answer_order(line);
     vectors::print_text(b"\n");
 }

@@ -3,8 +3,9 @@ ghost use mathlib.Core.Path.{_≡_};
 ghost use lib.Ieee.{binary32, toUnsigned, toSigned};
 ghost use Rattle.ieee.specs.Narrow.{narrowOf};
 ghost use Rattle.ieee.specs.Order.{maxOf};
+ghost use Rattle.ieee.specs.Remainder.{remOf};
 ghost use Rattle.ieee.specs.Root.{sqrtOf};
-ghost use Rattle.ieee.specs.Sign.{absOf};
+ghost use Rattle.ieee.specs.Sign.{absOf, signumOf};
 ghost use Rattle.ieee.specs.Whole.{floorOf, truncOf, roundOf, fractOf};
 ghost use Rattle.rng.specs.SplitMix64.{next};
 ghost use Rattle.rng.specs.Draw.{biFrom};
@@ -101,6 +102,29 @@ pub extern "C" fn h_usize64(x: f64) -> usize
     ensures { λ r. ⌜ r ≡ toUnsigned 64 x ⌝ }
 {
     float::f64_to_usize(x)
+}
+
+// Rust's `as i32`.
+#[no_mangle]
+pub extern "C" fn h_i32(x: f32) -> i32
+    ensures { λ r. ⌜ r ≡ toSigned 31 x ⌝ }
+{
+    float::f32_to_i32(x)
+}
+
+#[no_mangle]
+pub extern "C" fn h_signum(x: f32) -> f32
+    ensures { λ r. ⌜ r ≡ signumOf x ⌝ }
+{
+    float::signum_f32(x)
+}
+
+// Rust's `%`.
+#[no_mangle]
+pub extern "C" fn h_rem(x: f32, y: f32) -> f32
+    ensures { λ r. ⌜ r ≡ remOf x y ⌝ }
+{
+    remainder::rem_f32(x, y)
 }
 
 // 01's max, of an f64.

@@ -1,4 +1,4 @@
-// The kernels and their f32 wrappers under C names.
+// The kernels, their f32 wrappers and two functions of dsp over them, under C names.
 ghost use mathlib.Core.Path.{_≡_};
 ghost use Rattle.trig.specs.Trig.{sin64, cos64};
 ghost use Rattle.det.specs.Exp.{exp64};
@@ -7,6 +7,7 @@ ghost use Rattle.det.specs.Pow.{powf64};
 ghost use Rattle.det.specs.Tanh.{tanh64};
 ghost use Rattle.trig.specs.Single.{sinfOf, cosfOf};
 ghost use Rattle.det.specs.Single.{expfOf, lnfOf, powffOf, tanhfOf};
+ghost use Rattle.dsp.specs.Kernels.{log2Of, hzToMidi};
 
 #[no_mangle]
 pub extern "C" fn h_sin(x: f64) -> f64
@@ -90,4 +91,18 @@ pub extern "C" fn h_tanhf(x: f32) -> f32
     ensures { λ r. ⌜ r ≡ tanhfOf x ⌝ }
 {
     det::tanhf(x)
+}
+
+#[no_mangle]
+pub extern "C" fn h_log2(x: f32) -> f32
+    ensures { λ r. ⌜ r ≡ log2Of x ⌝ }
+{
+    dsp::log2(x)
+}
+
+#[no_mangle]
+pub extern "C" fn h_hz_to_midi(hz: f32) -> f32
+    ensures { λ r. ⌜ r ≡ hzToMidi hz ⌝ }
+{
+    dsp::hz_to_midi(hz)
 }

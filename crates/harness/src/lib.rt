@@ -3,6 +3,7 @@
 mod boards; // boards.rt: a list of operations on a board
 mod helpers; // helpers.rt: the float helpers and the generator
 mod kernels; // kernels.rt: the kernels of det
+mod kits; // kits.rt: the drum kit's numbers
 mod notes; // notes.rt: the note call
 mod outcomes; // outcomes.rt: the numbers of an outcome
 mod scores; // scores.rt: the score call

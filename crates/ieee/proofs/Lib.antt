@@ -19,3 +19,4 @@ pub mod Bounded
 pub mod NarrowEnds
 pub mod Integral
 pub mod Unique
+pub mod Remainder

@@ -3,6 +3,7 @@ pub mod Whole
 pub mod Order
 pub mod Narrow
 pub mod Root
+pub mod Remainder
 pub mod Nearest
 pub mod Integral
 pub mod Binary32

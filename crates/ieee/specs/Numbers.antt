@@ -15,6 +15,18 @@ c0 = ofBits binary32 0x00000000
 abbrev pub c0·001 : Float
 c0·001 = ofBits binary32 0x3a83126f
 
+-- 0.002
+abbrev pub c0·002 : Float
+c0·002 = ofBits binary32 0x3b03126f
+
+-- 0.003
+abbrev pub c0·003 : Float
+c0·003 = ofBits binary32 0x3b449ba6
+
+-- 0.004
+abbrev pub c0·004 : Float
+c0·004 = ofBits binary32 0x3b83126f
+
 -- 0.006
 abbrev pub c0·006 : Float
 c0·006 = ofBits binary32 0x3bc49ba6
@@ -26,6 +38,10 @@ c0·008 = ofBits binary32 0x3c03126f
 -- 0.01
 abbrev pub c0·01 : Float
 c0·01 = ofBits binary32 0x3c23d70a
+
+-- 0.018
+abbrev pub c0·018 : Float
+c0·018 = ofBits binary32 0x3c9374bc
 
 -- 0.03
 abbrev pub c0·03 : Float

@@ -13,15 +13,15 @@ truncating-f64-to-i64-requires c κs = (subst T (sym (c .before .if1 .taken)) tt
 
 returns-2 : tie.Need-returns-2
 unfolding ofBits neg
-returns-2 c = s-top (c .before .before .args .x) (c .before .if1 .taken) (c .if2 .left)
+returns-2 c = s-top 63 (c .before .before .args .x) (c .before .if1 .taken) (c .if2 .left)
 
 returns-3 : tie.Need-returns-3
 unfolding ofBits neg
-returns-3 c = s-bottom (c .before .before .args .x) (c .before .if1 .left) (c .if3 .taken)
+returns-3 c = s-bottom 63 (c .before .before .args .x) (c .before .if1 .left) (c .if3 .taken)
 
 returns-4 : tie.Need-returns-4
 unfolding ofBits neg
-returns-4 c = s-zero (c .before .before .args .x) (c .before .if1 .left) (c .if3 .left)
+returns-4 c = s-zero 63 (c .before .before .args .x) (c .before .if1 .left) (c .if3 .left)
 
 pub f64-to-i64-spec : {M : Type 1} → statement M
 f64-to-i64-spec =

@@ -1,0 +1,2 @@
+mod Numbered
+mod Signed32

@@ -1,0 +1,16 @@
+-- `kit_808::drums::clap` meets its contract: each call by what it ensures. Assumes nothing.
+use Rattle.kit_parts.proofs.Generator.{at-state}
+use Rattle.kit_808.specs.Drums.{eight08Clap}
+use Rattle.kit_808.proofs.drums.clap.Statement.{statement}
+use Rattle.kit_808.proofs.drums.clap.Tie as tie
+
+returns : tie.Need-returns
+unfolding eight08Clap
+returns c =
+    let b6 = c .before .before .before .before .before .before in
+    let b8 = c .before .before .before .before .before .before .before .before in
+    let b9 = c .before .before .before .before .before .before .before .before .before in
+    rw (at-state (b6 .bi .ensures .1), b6 .bi .ensures .0, b8 .exp .ensures, b9 .burst .ensures)
+
+pub clap-spec : {M : Type 1} → statement M
+clap-spec = tie.close (tie.spec (λ c κs. tt) (λ c κs. tt) (λ c κs. tt) returns)

@@ -1,0 +1,3 @@
+pub mod Drums
+pub mod Metal
+pub mod Eight08

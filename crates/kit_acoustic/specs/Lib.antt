@@ -1,0 +1,4 @@
+pub mod Drums
+pub mod Clap
+pub mod Cymbals
+pub mod Acoustic

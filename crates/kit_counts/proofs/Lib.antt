@@ -1,0 +1,2 @@
+mod Others
+pub mod Hits

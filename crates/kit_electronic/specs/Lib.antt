@@ -1,0 +1,3 @@
+pub mod Drums
+pub mod Cymbals
+pub mod Electronic

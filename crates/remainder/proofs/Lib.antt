@@ -1,0 +1,3 @@
+mod Shifted
+mod Patterns
+mod Cases
