@@ -128,7 +128,7 @@ static inline const char *tono_reason(int number)
  * The call keeps no state: a score gives the same listing every time. Threads may call it at the same time,
  * each with its own buffers. It allocates nothing, makes no system call and always returns.
  *
- * It uses up to 102,968 bytes of stack, measured on every wave (compare/robust/stack.c). Give a thread that
+ * It uses up to 103,160 bytes of stack, measured on every wave (compare/robust/stack.c). Give a thread that
  * calls it 128 KiB or more beyond its own needs. */
 int64_t tono_play(const uint8_t *score, size_t score_len, uint8_t *reply, size_t reply_len);
 
