@@ -142,7 +142,7 @@ fn replay_draws(line: &[u8]) {
         return;
     }
     let frames = vectors::u32_field(line, 4) as usize;
-    let draws = counts::draw_count(wave, rate, vectors::f32_field(line, 3), frames);
+    let draws = draws::draw_count(wave, kit, rate, vectors::f32_field(line, 3), frames);
     vectors::print_u64(draws as u64);
 }
 

@@ -3,7 +3,7 @@ use mathlib.Core.Path.{_≡_, refl, sym}
 use native.Mathlib.Omega.{arith}
 use Rattle.rng.specs.SplitMix64.{stateAfter}
 use Rattle.rng.proofs.States.{state-none}
-use Rattle.counts.specs.Draws.{drawsOf}
+use Rattle.draws.specs.Draws.{drawsOf}
 use Rattle.counts.proofs.Periods.{period-fits}
 use Rattle.voice_pluck.proofs.Kept.{pluck-kept}
 use Rattle.voice.specs.Voice.{waveFrames}

@@ -1,11 +1,11 @@
--- `counts::draws::draw_count` meets its contract. Assumes nothing.
+-- `draws::draw_count` meets its contract. Assumes nothing.
 use borrow.Author.Needs.{needs}
 use mathlib.Core.Path.{_≡_}
 use native.Mathlib.Omega.{arith}
 use Prim.Native.Nat.{ℕ, _<_, _≤_, min}
-use Rattle.counts.specs.Draws.{drawsOf}
-use Rattle.counts.proofs.draws.draw_count.Statement.{statement}
-use Rattle.counts.proofs.draws.draw_count.Tie as tie
+use Rattle.draws.specs.Draws.{drawsOf}
+use Rattle.draws.proofs.draw_count.Statement.{statement}
+use Rattle.draws.proofs.draw_count.Tie as tie
 
 low : (n k : ℕ) {h : ℕ} → h ≡ k → n < h → n ≡ min n k
 low n k e l = omega arith
