@@ -36,7 +36,9 @@ pub fn sound_note(
     requires { ⌜ length (now out) ≤ length (now «note_buf») ⌝ }
     requires { ⌜ 9600 ≤ length (now string) ⌝ }
     ensures { λ r. ⌜ r .0 ≡ stateAfter (rng .0) (drawsOf (seq .voice .wave) (seq .timing .rate) (pitchAt (reading (note .pitch) (seq .hop)) (now (lane .entry)) 0) (place .sounded)) ⌝ }
-    ensures { λ _. ⌜ now (out .exit) ≡ mixedAt (place .start) (noteFrames (seq .timing .rate) (seq .voice) (note .gain) (pitchAt (reading (note .pitch) (seq .hop)) (now (lane .entry))) (λ _. seq .duty) (rng .0) (place .sounded)) (seq .env) (place .len) (seq .timing .rate) (place .gain) (now (out .entry)) ⌝ }
+    ensures { λ _. ⌜ now (out .exit) ≡ mixedAt (place .start)
+        (noteFrames (seq .timing .rate) (seq .voice) (note .gain) (pitchAt (reading (note .pitch) (seq .hop)) (now (lane .entry))) (λ _. seq .duty) (rng .0) (place .sounded))
+        (seq .env) (place .len) (seq .timing .rate) (place .gain) (now (out .entry)) ⌝ }
     ensures { λ _. ⌜ drop (length (now (out .entry))) (now («note_buf» .exit)) ≡ drop (length (now (out .entry))) (now («note_buf» .entry)) ⌝ }
     ensures { λ _. ⌜ drop 9600 (now (string .exit)) ≡ drop 9600 (now (string .entry)) ⌝ }
 {
