@@ -1,5 +1,6 @@
 // The square and the triangle: two jumps a period, each smoothed by its residual, which keeps it from
-// aliasing. The triangle is the square summed up, with a leak that keeps the sum about zero.
+// aliasing. The triangle is the square summed up, with a leak that keeps the sum about zero. Each has a loop for the hop 1,
+// where the place of a value needs no product (`_each`), and one for any hop (`_any`).
 ghost use mathlib.Core.Path.{_≡_};
 ghost use lib.ListN.{length};
 ghost use lib.Ieee.{binary32};
@@ -7,6 +8,7 @@ ghost use Rattle.ieee.specs.Whole.{fractOf};
 ghost use Rattle.dsl.specs.Domain.{Frames};
 ghost use Rattle.dsl.specs.Pitch.{pitchAt, reaches};
 ghost use Rattle.voice_waves.specs.Pulse.{pulseLevel, pulseOf, squareAt, squareFrames, triangleAt, triangleFrames};
+use crate::each::each_at;
 use crate::plain::PhaseOut;
 use dsl::Reading;
 
@@ -45,8 +47,31 @@ fn square_at(fi: f32, di: f32, srf: f32, phase: f32) -> PhaseOut
     }
 }
 
-// The duty is read at every frame.
-pub fn square(
+fn square_each(
+    pitch: Reading,
+    lane: &[f32],
+    duty: Reading,
+    duties: &[f32],
+    srf: f32,
+    out: &mut [f32],
+)
+    requires { ⌜ pitch .hop ≡ 1 ⌝ }
+    requires { ⌜ duty .hop ≡ 1 ⌝ }
+    requires { ⌜ reaches pitch (length (now lane)) (length (now out)) ⌝ }
+    requires { ⌜ reaches duty (length (now duties)) (length (now out)) ⌝ }
+    ensures { λ _. ⌜ now (out .exit) ≡ squareFrames (pitchAt pitch (now (lane .entry))) (pitchAt duty (now (duties .entry))) srf (length (now (out .entry))) ⌝ }
+{
+    let mut s = 0.0f32;
+    let mut i = 0usize;
+    while i < out.len() {
+        let r = square_at(each_at(pitch, lane, i), each_at(duty, duties, i), srf, s);
+        out[i] = r.sample;
+        s = r.state;
+        i += 1;
+    }
+}
+
+fn square_any(
     pitch: Reading,
     lane: &[f32],
     duty: Reading,
@@ -65,6 +90,26 @@ pub fn square(
         out[i] = r.sample;
         s = r.state;
         i += 1;
+    }
+}
+
+// The duty is read at every frame.
+pub fn square(
+    pitch: Reading,
+    lane: &[f32],
+    duty: Reading,
+    duties: &[f32],
+    srf: f32,
+    out: &mut [f32],
+)
+    requires { ⌜ reaches pitch (length (now lane)) (length (now out)) ⌝ }
+    requires { ⌜ reaches duty (length (now duties)) (length (now out)) ⌝ }
+    ensures { λ _. ⌜ now (out .exit) ≡ squareFrames (pitchAt pitch (now (lane .entry))) (pitchAt duty (now (duties .entry))) srf (length (now (out .entry))) ⌝ }
+{
+    if pitch.hop == 1 && duty.hop == 1 {
+        square_each(pitch, lane, duty, duties, srf, out);
+    } else {
+        square_any(pitch, lane, duty, duties, srf, out);
     }
 }
 
@@ -93,8 +138,25 @@ fn triangle_at(fi: f32, srf: f32, s: TriangleState) -> TriangleOut
     }
 }
 
-// A square wave summed up, with a leak that keeps the sum about zero.
-pub fn triangle(pitch: Reading, lane: &[f32], srf: f32, out: &mut [f32])
+fn triangle_each(pitch: Reading, lane: &[f32], srf: f32, out: &mut [f32])
+    requires { ⌜ pitch .hop ≡ 1 ⌝ }
+    requires { ⌜ reaches pitch (length (now lane)) (length (now out)) ⌝ }
+    ensures { λ _. ⌜ now (out .exit) ≡ triangleFrames (pitchAt pitch (now (lane .entry))) srf (length (now (out .entry))) ⌝ }
+{
+    let mut s = TriangleState {
+        phase: 0.0,
+        tri: 0.0,
+    };
+    let mut i = 0usize;
+    while i < out.len() {
+        let r = triangle_at(each_at(pitch, lane, i), srf, s);
+        out[i] = r.sample;
+        s = r.state;
+        i += 1;
+    }
+}
+
+fn triangle_any(pitch: Reading, lane: &[f32], srf: f32, out: &mut [f32])
     requires { ⌜ reaches pitch (length (now lane)) (length (now out)) ⌝ }
     ensures { λ _. ⌜ now (out .exit) ≡ triangleFrames (pitchAt pitch (now (lane .entry))) srf (length (now (out .entry))) ⌝ }
 {
@@ -108,5 +170,17 @@ pub fn triangle(pitch: Reading, lane: &[f32], srf: f32, out: &mut [f32])
         out[i] = r.sample;
         s = r.state;
         i += 1;
+    }
+}
+
+// A square wave summed up, with a leak that keeps the sum about zero.
+pub fn triangle(pitch: Reading, lane: &[f32], srf: f32, out: &mut [f32])
+    requires { ⌜ reaches pitch (length (now lane)) (length (now out)) ⌝ }
+    ensures { λ _. ⌜ now (out .exit) ≡ triangleFrames (pitchAt pitch (now (lane .entry))) srf (length (now (out .entry))) ⌝ }
+{
+    if pitch.hop == 1 {
+        triangle_each(pitch, lane, srf, out);
+    } else {
+        triangle_any(pitch, lane, srf, out);
     }
 }
