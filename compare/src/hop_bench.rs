@@ -5,7 +5,7 @@ use crate::bench::{chord, fastest, their_score, Bench, FRAMES, GAIN, SECONDS};
 use crate::waves::WAVES;
 use tono::dsl::{SeqNote, SeqWave, Value};
 
-const TRIED: [&str; 5] = ["square", "sawtooth", "sine", "noise", "strings"];
+const TRIED: [&str; 6] = ["square", "triangle", "sawtooth", "sine", "noise", "strings"];
 const HOPS: [u32; 3] = [1, 64, 4096];
 /// All pitches are this one, so that all frames of a wave are the same and only their reading differs.
 const PITCH: f32 = 440.0;

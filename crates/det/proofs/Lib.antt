@@ -3,3 +3,4 @@ pub mod Numbers
 pub mod Powers
 pub mod Pattern
 pub mod Differences
+pub mod Below

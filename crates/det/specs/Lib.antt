@@ -1,5 +1,6 @@
 pub mod Rounded
 pub mod Exp
+pub mod Low
 pub mod Ln
 pub mod Pow
 pub mod Tanh

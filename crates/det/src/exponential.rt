@@ -2,6 +2,7 @@
 ghost use mathlib.Core.Path.{_≡_};
 ghost use lib.Dec.{T};
 ghost use Rattle.det.specs.Exp.{ldexp2Of, scaled, expFrom, expReduced, exp64};
+ghost use Rattle.det.specs.Low.{Low};
 ghost use Rattle.det.specs.Rounded.{noFraction};
 use crate::rounded::rounded_to_i64;
 use crate::special::infinity;
@@ -67,7 +68,7 @@ fn exp_from(x: f64, k: f64) -> f64
 }
 
 // k is x / ln 2, rounded: above zero, below it, and where `near_f64` gives nothing.
-fn exp_reduced(x: f64) -> f64
+fn exp_rounded(x: f64) -> f64
     ensures { λ r. ⌜ r ≡ expReduced x ⌝ }
 {
     let t = x * INV_LN2;
@@ -80,6 +81,37 @@ fn exp_reduced(x: f64) -> f64
         return exp_from(x, -n);
     }
     exp_from(x, float::round_f64(t))
+}
+
+// Below zero, with no branch. The whole number n nearest to -x / ln 2 stands in the last digits of its sum with 2^52, and
+// 2^-n has the exponent's field 1023 - n.
+pub fn exp_low(x: f64) -> f64
+    requires { ⌜ Low x ⌝ }
+    ensures { λ r. ⌜ r ≡ expReduced x ⌝ }
+{
+    let a = -(x * INV_LN2);
+    let s = a + 4503599627370496.0;
+    let k = -(s - 4503599627370496.0);
+    let r = (x - k * LN2_HI) - k * LN2_LO;
+    let t = r * r;
+    let c = r - t * (P1 + t * (P2 + t * (P3 + t * (P4 + t * P5))));
+    let y = 1.0 - ((r * c) / (c - 2.0) - r);
+    y * f64::from_bits(0x3ff0_0000_0000_0000 - (f64::to_bits(s) << 52))
+}
+
+// Every exponential that a voice asks for in each frame has an argument below zero.
+fn exp_reduced(x: f64) -> f64
+    ensures { λ r. ⌜ r ≡ expReduced x ⌝ }
+{
+    let a = -(x * INV_LN2);
+    if a > 0.0 {
+        if a < 1000.0 {
+            if a < ((a + 4503599627370496.0) - 4503599627370496.0) + 0.5 {
+                return exp_low(x);
+            }
+        }
+    }
+    exp_rounded(x)
 }
 
 pub fn exp(x: f64) -> f64

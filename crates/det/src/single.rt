@@ -9,7 +9,7 @@ use crate::power::powf;
 pub fn expf(x: f32) -> f32
     ensures { λ r. ⌜ r ≡ expfOf x ⌝ }
 {
-    rounding::narrow(exp(rounding::widen(x)))
+    rounding::narrow_positive(exp(rounding::widen(x)))
 }
 
 pub fn lnf(x: f32) -> f32

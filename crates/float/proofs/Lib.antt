@@ -1,4 +1,4 @@
-mod Wholes
+pub mod Wholes
 pub mod Signs
 mod Casting
 pub mod Signed

@@ -167,6 +167,11 @@ module _ {f : Format} {x : Float} (z : Parts f x) (fit : T (fits f x)) where
       sum-is : sum f false (A z * 1) false (H f * C z) (C z * 1) ≡ round f false (A z + H f * C z) (C z)
       sum-is = unfold sum in (λ i. round f false (mul-one (A z) i + H f * C z) (mul-one (C z) i))
 
+  -- as the code computes the sum
+  pub sum-value : HasValue (add f x (fin false 1 (pos (prec f - 1)))) false (closest (A z) (C z) + H f) 1
+  unfolding power
+  sum-value = raised-sum
+
   nearest-value : HasValue (sub f (add f x (power f)) (power f)) false (closest (A z) (C z)) 1
   nearest-value =
       let n = closest (A z) (C z) in

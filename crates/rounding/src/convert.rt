@@ -88,7 +88,7 @@ fn narrow_fields(x: f64) -> f32
 // fields differ by 896, and 29 digits are dropped. Half a unit less one is added first, and one
 // more where the last digit kept is odd, so that what is cut off has been rounded. A carry out of
 // the digits makes the next exponent, at the top the infinity's.
-fn narrow_normal(sign: bool, magnitude: u64) -> f32
+pub fn narrow_normal(sign: bool, magnitude: u64) -> f32
     requires { ⌜ (0x3810_0000_0000_0000 ≤ magnitude) × (magnitude < 0x47f0_0000_0000_0000) ⌝ }
     ensures { λ r. ⌜ r ≡ narrowOf (ofBits binary64 (cond sign (2 ^ 63) 0 + magnitude)) ⌝ }
 {
@@ -113,4 +113,20 @@ pub fn narrow(x: f64) -> f32
         }
     }
     narrow_fields(x)
+}
+
+// The same, by the common range of values above 0 first.
+pub fn narrow_positive(x: f64) -> f32
+    ensures { λ r. ⌜ r ≡ narrowOf x ⌝ }
+{
+    if x != x {
+        return narrow(x);
+    }
+    let bits = f64::to_bits(x);
+    if 0x3810_0000_0000_0000 <= bits {
+        if bits < 0x47f0_0000_0000_0000 {
+            return narrow_normal(false, bits);
+        }
+    }
+    narrow(x)
 }

@@ -7,5 +7,7 @@ mod square_root; // square_root.rt: the square root
 pub use bits::f32_from_bits;
 pub use bits::signed_f32;
 pub use convert::narrow;
+pub use convert::narrow_normal;
+pub use convert::narrow_positive;
 pub use convert::widen;
 pub use square_root::sqrt_f32;

@@ -1,7 +1,8 @@
-// The draws of a score, or that they pass what is left.
+// Whether the draws of a score pass what is left.
 ghost use mathlib.Core.Path.{_≡_};
 ghost use Prim.Native.Nat.{_/_, _<_};
 ghost use lib.ListN.{length};
+ghost use lib.Dec.{leb};
 ghost use Rattle.outcome.specs.declared.answer.Verdict.the-variants.{Fine};
 ghost use Rattle.score.specs.Score.{scoreOf, noteIn, noteDraws, scoreDraws};
 ghost use Rattle.score.specs.Refusals.{refusal};
@@ -40,7 +41,7 @@ pub enum Sum {
 
 // The draws of all notes, or that they pass `left`. What is added never passes `left`, so that the sum
 // cannot overflow.
-pub fn score_draws(seq: Seq, notes: &[u32], lane: &[f32], lent: Lent, left: u64) -> Sum
+fn score_draws(seq: Seq, notes: &[u32], lane: &[f32], lent: Lent, left: u64) -> Sum
     requires { ⌜ refusal (scoreOf seq (now notes) (now lane) lent) ≡ Fine ⌝ }
     ensures { λ r. ⌜ r ≡ sumOf left (scoreDraws (scoreOf seq (now (notes .entry)) (now (lane .entry)) lent)) ⌝ }
 {
@@ -56,4 +57,23 @@ pub fn score_draws(seq: Seq, notes: &[u32], lane: &[f32], lent: Lent, left: u64)
         k += 1;
     }
     Sum::Total(total)
+}
+
+// A note makes at most as many draws as a call may have frames, 2^24 (the law `few-fit`).
+const NOTE_MOST: u64 = 16777216;
+
+// Whether the draws of all notes are no more than `left`. So many notes that the sum is needed to tell are rare.
+pub fn draws_fit(seq: Seq, notes: &[u32], lane: &[f32], lent: Lent, left: u64) -> bool
+    requires { ⌜ refusal (scoreOf seq (now notes) (now lane) lent) ≡ Fine ⌝ }
+    ensures { λ r. ⌜ r ≡ leb (scoreDraws (scoreOf seq (now (notes .entry)) (now (lane .entry)) lent)) left ⌝ }
+{
+    let count = (notes.len() / 5) as u64;
+    if count <= left / NOTE_MOST {
+        return true;
+    }
+    let sum = score_draws(seq, notes, lane, lent, left);
+    match sum {
+        Sum::Over => false,
+        Sum::Total(d) => d <= left,
+    }
 }

@@ -1,12 +1,12 @@
 -- The ways in which a score call ends. Assumes nothing.
 use Prim.Native.Nat.{ℕ, _+_, _-_, _^_, _≤_, _<_}
-use mathlib.Core.Path.{_≡_, refl, sym, ap, _∙_}
+use mathlib.Core.Path.{_≡_, sym, ap, _∙_}
 use mathlib.Core.List.{[], _∷_}
-use mathlib.Core.Bool.{Bool, true, false, cond}
+use mathlib.Core.Bool.{true, false}
 use native.Mathlib.Omega.{arith}
-use borrow.Author.Tests.{ltb-true, ltb-false, lt-ltb, le-ltb}
+use borrow.Author.Tests.{lt-ltb, le-ltb, leb-true, leb-false}
 use lib.ListN.{length, drop}
-use lib.Dec.{ltb}
+use lib.Dec.{ltb, leb}
 use Rattle.rng.specs.SplitMix64.{stateAfter}
 use Rattle.rng.specs.declared.Rng.{Rng}
 use Rattle.outcome.specs.Answer.{Result, accepted, unless, seen, outAfter, free}
@@ -22,41 +22,24 @@ use Rattle.score.specs.Refusals.{refusal, refusalAt}
 use Rattle.score_contract.specs.ScoreCall.{Event, Scored, scoreIn, stationAfter, resultOf, resultIn}
 use Rattle.session.specs.declared.station.Station.{Station}
 use Rattle.session.specs.declared.station.StationAnswer.{StationAnswer}
-use Rattle.score_draws.specs.Sum.{sumOf}
-use Rattle.score_draws.specs.declared.Sum.the-variants.{Over, Total}
 
 -- ---- 22 applies where none before it does and the draws pass what is left
-over-is : (b : Bool) (D : ℕ) → Over ≡ cond b Over (Total D) → b ≡ true
-over-is true D e = refl
-over-is false D e = cc
-
-total-is : (b : Bool) (D t : ℕ) → Total t ≡ cond b Over (Total D) → (b ≡ false) × (t ≡ D)
-total-is true D t e = (cc, cc)
-total-is false D t e = (refl, cc)
-
-module _ (left D t : ℕ) (e : Total t ≡ sumOf left D) where
-  total-exact : t ≡ D
-  total-exact = total-is (ltb left D) D t e .1
-
-  total-fits : D ≤ left
-  total-fits = ltb-false left D (total-is (ltb left D) D t e .0)
-
 module _ (s : Score) (d : ℕ) where
   refused-first : {r : Refusal} → Refuse r ≡ refusal s → Refuse r ≡ refusalAt s d
   unfolding refusalAt
   refused-first e = ap (λ (v : Verdict). orElse v (firstOf ((ltb (2 ^ 64 - 1) (d + scoreDraws s) ⇒ Draws) ∷ []))) e
 
   module _ (none : Fine ≡ refusal s) (fits : d < 2 ^ 64) where
-    refused-last : Over ≡ sumOf (2 ^ 64 - 1 - d) (scoreDraws s) → Refuse Draws ≡ refusalAt s d
+    refused-last : leb (scoreDraws s) (2 ^ 64 - 1 - d) ≡ false → Refuse Draws ≡ refusalAt s d
     unfolding refusalAt firstOf
     refused-last o =
-        let h : 2 ^ 64 - 1 < d + scoreDraws s = omega (arith, ltb-true (2 ^ 64 - 1 - d) (scoreDraws s) (over-is _ _ o)) in
+        let h : 2 ^ 64 - 1 < d + scoreDraws s = omega (arith, leb-false (scoreDraws s) (2 ^ 64 - 1 - d) o) in
         rw (sym none, lt-ltb _ _ h)
 
-    refused-not : (t : ℕ) → Total t ≡ sumOf (2 ^ 64 - 1 - d) (scoreDraws s) → Fine ≡ refusalAt s d
+    refused-not : leb (scoreDraws s) (2 ^ 64 - 1 - d) ≡ true → Fine ≡ refusalAt s d
     unfolding refusalAt firstOf
-    refused-not t o =
-        let h : d + scoreDraws s ≤ 2 ^ 64 - 1 = omega (arith, total-fits (2 ^ 64 - 1 - d) (scoreDraws s) t o) in
+    refused-not o =
+        let h : d + scoreDraws s ≤ 2 ^ 64 - 1 = omega (arith, leb-true (scoreDraws s) (2 ^ 64 - 1 - d) o) in
         rw (sym none, le-ltb _ _ h)
 
 -- ---- a call on the station a
@@ -103,15 +86,19 @@ module _ (a : Station) (e : Event) where
   refused-call n = refused-by (refused-first (scoreIn e) (a .draw) n)
 
   module _ (none : Fine ≡ refusal (scoreIn e)) (fits : a .draw < 2 ^ 64) where
-    pub overdrawn-call : Over ≡ sumOf left (scoreDraws (scoreIn e)) → e .answer ≡ record { station = a; outcome = Refused Draws } → e .out ≡ e .out₀ → e .buffer ≡ e .buffer₀
+    pub overdrawn-call : leb (scoreDraws (scoreIn e)) left ≡ false → e .answer ≡ record { station = a; outcome = Refused Draws } → e .out ≡ e .out₀ → e .buffer ≡ e .buffer₀
         → e .string ≡ e .string₀ → Scored a e
     overdrawn-call over = refused-by (refused-last (scoreIn e) (a .draw) none fits over)
 
-    pub accepted-call : (g : Rng) (t : ℕ) → Total t ≡ sumOf left (scoreDraws (scoreIn e)) → g .0 ≡ stateAfter (a .rng .0) (scoreDraws (scoreIn e))
+    pub accepted-call : (g : Rng) (t : ℕ) → leb (scoreDraws (scoreIn e)) left ≡ true → t ≡ scoreDraws (scoreIn e) → g .0 ≡ stateAfter (a .rng .0) (scoreDraws (scoreIn e))
         → e .answer ≡ record { station = record { rng = g; draw = a .draw + t }; outcome = Played t } → e .out ≡ scoreFrames (scoreIn e) (a .rng .0) 0
         → drop (length (e .out₀)) (e .buffer) ≡ drop (length (e .out₀)) (e .buffer₀) → drop 9600 (e .string) ≡ drop 9600 (e .string₀) → Scored a e
-    accepted-call g t is = accepted-by (refused-not (scoreIn e) (a .draw) none fits t is) g t (total-exact left (scoreDraws (scoreIn e)) t is)
+    accepted-call g t fit = accepted-by (refused-not (scoreIn e) (a .draw) none fits fit) g t
+
+-- what a fitting score draws is a count of 64 bits
+pub draws-below : (d D : ℕ) → leb D (2 ^ 64 - 1 - d) ≡ true → D < 2 ^ 64
+draws-below d D fit = omega (arith, leb-true D (2 ^ 64 - 1 - d) fit)
 
 -- the count after an accepted call fits
-pub draw-fits : (d D t : ℕ) → d < 2 ^ 64 → Total t ≡ sumOf (2 ^ 64 - 1 - d) D → d + t < 2 ^ 64
-draw-fits d D t fits is = omega (arith, total-exact (2 ^ 64 - 1 - d) D t is, total-fits (2 ^ 64 - 1 - d) D t is)
+pub draw-fits : (d D t : ℕ) → d < 2 ^ 64 → leb D (2 ^ 64 - 1 - d) ≡ true → t ≡ D → d + t < 2 ^ 64
+draw-fits d D t fits fit is = omega (arith, leb-true D (2 ^ 64 - 1 - d) fit)

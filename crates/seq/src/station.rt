@@ -5,13 +5,12 @@ use outcome::Refusal;
 use outcome::Verdict;
 use score::Lent;
 use score::Seq;
-use score_draws::Sum;
 use score_notes::play_notes;
 use session::Station;
 use session::StationAnswer;
 
 // Fills `out` with a score, and answers how many draws it made and the station after them: its generator as the
-// last note left it.
+// last note left it. How far that generator has come tells the draws.
 pub(crate) fn render_station(
     station: Station,
     seq: Seq,
@@ -46,14 +45,15 @@ pub(crate) fn render_station(
         };
     }
     let draw = station.draw;
-    let sum = score_draws::score_draws(seq, notes, lane, lent, u64::MAX - draw);
-    let Sum::Total(d) = sum else {
+    if !score_draws::draws_fit(seq, notes, lane, lent, u64::MAX - draw) {
         return StationAnswer {
             station,
             outcome: Outcome::Refused(Refusal::Draws),
         };
-    };
-    let rng = play_notes(station.rng, seq, notes, lane, lent, out, note_buf, string);
+    }
+    let from = station.rng;
+    let rng = play_notes(from, seq, notes, lane, lent, out, note_buf, string);
+    let d = rng_distance::distance(from, rng);
     let count = draw + d;
     let after = Station { rng, draw: count };
     StationAnswer {

@@ -10,12 +10,9 @@ use Rattle.ieee.specs.Order.{maxOf, minOf}
 use Rattle.dsp.specs.Kernels.{TAU, expOf}
 use Rattle.osc.specs.Osc.{sawOf}
 use Rattle.osc.specs.Phase.{wrapped, seconds}
+use Rattle.brass_opening.specs.Opening.{c0·07, c800, c1400}
 use Rattle.voice_brass.specs.declared.BrassState.{BrassState}
 use Rattle.voice_brass.specs.declared.BrassOut.{BrassOut}
-
--- 0.07
-abbrev pub c0·07 : Float
-c0·07 = ofBits binary32 0x3d8f5c29
 
 -- 0.996
 abbrev pub c0·996 : Float
@@ -24,14 +21,6 @@ c0·996 = ofBits binary32 0x3f7ef9db
 -- 1.004
 abbrev pub c1·004 : Float
 c1·004 = ofBits binary32 0x3f808312
-
--- 800.0
-abbrev pub c800 : Float
-c800 = ofBits binary32 0x44480000
-
--- 1400.0
-abbrev pub c1400 : Float
-c1400 = ofBits binary32 0x44af0000
 
 unfoldable pub brassAt : Float → Float → Float → ℕ → BrassState → BrassOut
 brassAt fi gain srf i s =

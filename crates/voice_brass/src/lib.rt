@@ -1,10 +1,14 @@
 // Brass: two saws, detuned by 0.4 percent down and up, through a lowpass whose cutoff swells from 800
 // to 2,200 hertz over the first 70 ms, the blat of a horn's attack. A louder note opens it further.
 ghost use mathlib.Core.Path.{_≡_};
+ghost use Prim.Native.Nat.{_+_, _≤_, _<_};
 ghost use lib.ListN.{length};
+ghost use lib.Ieee.{nan};
+ghost use Rattle.blocks.proofs.Block.{Ran};
 ghost use Rattle.dsl.specs.Domain.{Frames};
 ghost use Rattle.dsl.specs.Pitch.{pitchAt, reaches};
-ghost use Rattle.voice_brass.specs.Brass.{brassAt, brassFrames};
+ghost use Rattle.voice_brass.specs.Brass.{brassFrames};
+ghost use Rattle.voice_brass.specs.Filtered.{brassBy};
 use dsl::Reading;
 
 // The phases of the saws, spread so that the onset is no click, and the filter's memory.
@@ -19,19 +23,16 @@ struct BrassOut {
     state: BrassState,
 }
 
-fn brass_at(fi: f32, gain: f32, srf: f32, i: usize, s: BrassState) -> BrassOut
-    requires { ⌜ Frames i ⌝ }
-    ensures { λ r. ⌜ r ≡ brassAt fi gain srf i s ⌝ }
+// A frame, its filter opened by a.
+fn brass_by(a: f32, fi: f32, srf: f32, s: BrassState) -> BrassOut
+    ensures { λ r. ⌜ r ≡ brassBy a fi srf s ⌝ }
 {
-    let t = osc::frame_time(i, srf);
     let f = float::max_f32(fi, 0.0);
     let low_dt = f * 0.996 / srf;
     let high_dt = f * 1.004 / srf;
     let sum = 0.0 + osc::saw(s.low, low_dt) + osc::saw(s.high, high_dt);
     let low = osc::wrap(s.low + low_dt);
     let high = osc::wrap(s.high + high_dt);
-    let cutoff = 800.0 + (1400.0 + 1200.0 * gain) * (1.0 - dsp::exp(-t / 0.07));
-    let a = 1.0 - dsp::exp(-dsp::TAU * float::min_f32(cutoff, 0.45 * srf) / srf);
     let lp = s.lp + a * (sum * 0.5 - s.lp);
     BrassOut {
         sample: lp,
@@ -39,6 +40,40 @@ fn brass_at(fi: f32, gain: f32, srf: f32, i: usize, s: BrassState) -> BrassOut
     }
 }
 
+// The frames of a block, whose openings are a, from the state before it; hands back the state after it.
+fn brass_block(
+    a: &[f32; 64],
+    pitch: Reading,
+    lane: &[f32],
+    srf: f32,
+    from: usize,
+    end: usize,
+    start: BrassState,
+    out: &mut [f32],
+) -> BrassState
+    requires { ⌜ (from ≤ end) × (end ≤ from + 64) × (end ≤ length (now out)) ⌝ }
+    requires { ⌜ reaches pitch (length (now lane)) end ⌝ }
+    ensures { λ r. ⌜ Ran (λ x i. brassBy x (pitchAt pitch (now (lane .entry)) i) srf) (λ o. o .sample) (λ o. o .state) nan (now (a .entry)) from end (now (out .entry)) start end (now (out .exit)) r ⌝ }
+{
+    let mut s = start;
+    let mut i = from;
+    while i < end {
+        let r = brass_by(a[i - from], pitch.at(lane, i), srf, s);
+        out[i] = r.sample;
+        s = r.state;
+        i += 1;
+    }
+    s
+}
+
+fn block_end(i: usize, n: usize) -> usize
+    requires { ⌜ i < n ⌝ }
+    ensures { λ r. ⌜ (i < r) × (r ≤ n) × (r ≤ i + 64) ⌝ }
+{
+    if n - i <= 64 { n } else { i + 64 }
+}
+
+// In blocks of 64 frames: the openings first, and then the frames that they filter.
 pub fn brass_note(pitch: Reading, lane: &[f32], gain: f32, srf: f32, out: &mut [f32])
     requires { ⌜ reaches pitch (length (now lane)) (length (now out)) ⌝ }
     requires { ⌜ Frames (length (now out)) ⌝ }
@@ -49,11 +84,12 @@ pub fn brass_note(pitch: Reading, lane: &[f32], gain: f32, srf: f32, out: &mut [
         high: 0.5,
         lp: 0.0,
     };
+    let mut a = [0.0f32; 64];
     let mut i = 0usize;
     while i < out.len() {
-        let r = brass_at(pitch.at(lane, i), gain, srf, i, s);
-        out[i] = r.sample;
-        s = r.state;
-        i += 1;
+        let end = block_end(i, out.len());
+        brass_opening::openings(gain, srf, i, end, &mut a);
+        s = brass_block(&a, pitch, lane, srf, i, end, s, out);
+        i = end;
     }
 }

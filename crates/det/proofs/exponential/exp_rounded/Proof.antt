@@ -1,4 +1,4 @@
--- `det::exponential::exp_reduced` meets its contract. Assumes nothing.
+-- `det::exponential::exp_rounded` meets its contract. Assumes nothing.
 use borrow.Author.Needs.{needs}
 use mathlib.Core.Path.{_≡_, sym, ap, _∙_, subst}
 use lib.Dec.{T}
@@ -9,8 +9,8 @@ use Rattle.det.specs.Rounded.{noFraction}
 use Rattle.float.proofs.Signs.{near-whole, near-whole-mirrored}
 use Rattle.det.proofs.Casts.{round-whole}
 use Rattle.det.specs.Exp.{INV·LN2, expFrom, expReduced}
-use Rattle.det.proofs.exponential.exp_reduced.Statement.{statement}
-use Rattle.det.proofs.exponential.exp_reduced.Tie as tie
+use Rattle.det.proofs.exponential.exp_rounded.Statement.{statement}
+use Rattle.det.proofs.exponential.exp_rounded.Tie as tie
 
 -- x / ln 2
 abbrev quotient : Float → Float
@@ -46,8 +46,8 @@ returns-3 : tie.Need-returns-3
 unfolding expReduced
 returns-3 c = rw (c .exp-from3 .ensures, c .before .round-f64 .ensures)
 
-pub exp-reduced-spec : {M : Type 1} → statement M
-exp-reduced-spec =
+pub exp-rounded-spec : {M : Type 1} → statement M
+exp-rounded-spec =
     tie.close
     (tie.spec
     (λ c κs. search needs)

@@ -1,0 +1,1 @@
+// Laws of loops that go by blocks of frames; no code.

@@ -1,0 +1,24 @@
+-- Where the exponential is done without a branch: below 0, not far, and with x / ln 2 not half-way between whole numbers.
+use mathlib.Core.Path.{_≡_}
+use mathlib.Core.Bool.{true}
+use lib.Ieee.{Float, binary64, ofBits, lt, neg}
+use Rattle.ieee.specs.Binary64.{_⊞_, _⊟_, _⊠_}
+use Rattle.ieee.specs.Numbers64.{d0, d0·5}
+use Rattle.det.specs.Exp.{INV·LN2}
+
+-- 2^52
+abbrev pub d2·52 : Float
+d2·52 = ofBits binary64 0x4330_0000_0000_0000
+
+-- 1000.0
+abbrev pub d1000 : Float
+d1000 = ofBits binary64 0x408f_4000_0000_0000
+
+-- -x / ln 2
+abbrev pub quotient : Float → Float
+quotient x = neg (x ⊠ INV·LN2)
+
+pub record Low (x : Float) : Type 0 where
+  pub positive : lt d0 (quotient x) ≡ true
+  pub below : lt (quotient x) d1000 ≡ true
+  pub near : lt (quotient x) (quotient x ⊞ d2·52 ⊟ d2·52 ⊞ d0·5) ≡ true

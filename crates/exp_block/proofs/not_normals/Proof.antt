@@ -1,0 +1,48 @@
+-- `exp_block::not_normals` meets its contract. Assumes nothing.
+use borrow.Author.Needs.{needs}
+use native.Mathlib.Omega.{arith}
+use mathlib.Core.Path.{_≡_}
+use borrow.Author.Count.{below-more}
+use Prim.Native.Nat.{ℕ, _-_, _≤_, _<_, _*_}
+use lib.ListN.{getD}
+use lib.Ieee.{nan}
+use Rattle.exp_block.specs.Range.{Normal}
+use Rattle.exp_block.proofs.not_normals.Statement.{statement}
+use Rattle.exp_block.proofs.not_normals.Tie as tie
+
+abbrev Inv-loop : tie.InvT-loop
+Inv-loop z bad₀ i₀ bad i = (i ≤ 64) × (bad ≤ i * 2) × (bad ≡ 0 → (k : ℕ) → k < i → Normal (getD z k nan))
+
+abbrev μ-loop : tie.MeasureT-loop
+μ-loop z bad₀ i₀ bad i = 64 - i
+
+none : (k : ℕ) → k < 0 → ⊥
+none k l = omega arith
+
+loop-holds : tie.Need-loop-holds Inv-loop μ-loop
+loop-holds c = (omega arith, omega arith, λ e k l. absurd (none k l))
+
+add-bad : tie.Need-add-bad Inv-loop μ-loop
+add-bad c = omega (arith, c .not-normal .ensures .0)
+
+loop-again : tie.Need-loop-again Inv-loop μ-loop
+loop-again c = (omega arith, omega (arith, c .not-normal .ensures .0), λ e. below-more _ _ (c .before .before .before .loop .inv .2 (omega arith)) (c .not-normal .ensures .1 (omega arith)))
+
+returns : tie.Need-returns Inv-loop μ-loop
+returns c = λ e k l. c .before .loop .inv .2 e k (omega arith)
+
+pub not-normals-spec : {M : Type 1} → statement M
+not-normals-spec =
+    tie.close
+    (tie.spec
+    Inv-loop
+    μ-loop
+    loop-holds
+    (λ c. search needs)
+    (λ c. search needs)
+    (λ c κs. search needs)
+    add-bad
+    (λ c. search needs)
+    (λ c. search needs)
+    loop-again
+    returns)
