@@ -11,9 +11,17 @@ import sys
 import single
 
 ROOT = os.path.dirname(os.path.dirname(os.path.abspath(__file__)))
-WAVES = {place: name for place, name in enumerate(
-    "square triangle sawtooth sine noise fm pluck piano epiano organ strings brass flute mallet bell bass".split())}
-WAVES[17] = "cowbell"
+WAVES = dict(enumerate(
+    "square triangle sawtooth sine noise fm pluck piano epiano organ strings brass flute mallet bell bass kit cowbell".split()))
+# the drum kit's styles
+STYLES = "classic acoustic electronic 808".split()
+# the drums that all styles have, by the MIDI numbers that pick them; every other number picks a drum without a name
+DRUMS = {
+    "kick": (35, 36), "rim": (37,), "snare": (38, 40), "clap": (39,), "closed hat": (42, 44), "open hat": (46,),
+    "tom": (41, 43, 45, 47, 48, 50), "crash": (49, 55, 57), "ride": (51, 53, 59), "cowbell": (56,),
+}
+# milliseconds in which a drum draws, by style and name; the others draw in every frame, or never
+EARLY = {("classic", "kick"): 2, ("acoustic", "kick"): 18, ("electronic", "kick"): 3, ("808", "kick"): 4, ("808", "rim"): 3}
 KNOBS = {
     "fm": "fm_ratio fm_index fm_strike".split(),
     "pluck": "pluck_decay pluck_body pluck_pick pluck_tone".split(),
@@ -45,6 +53,9 @@ class Score:
         self.envelope = e[1:]
         self.place, self.duty = int(v[1]), v[2]
         self.wave = WAVES[self.place]
+        self.number = int(v[3]) if self.wave == "kit" else None
+        self.style = STYLES[self.number] if self.wave == "kit" else None
+        self.voice = f"{self.wave}, {self.style}" if self.style else self.wave
         self.knobs = list(zip(KNOBS.get(self.wave, []), v[3:]))
         self.bars_written = self.wave == "organ" and len(v) > 3
         bars = v[3:] if self.bars_written else BARS
@@ -119,8 +130,29 @@ def place_of(score, note):
     return start, min(score.frames - start, length)
 
 
+def midi_of(pitch):
+    """The MIDI number that a pitch rounds to, at least that of 8 Hz: it picks the drum of a kit."""
+    octaves = round32(round32(math.log(round32(max(pitch, 8.0) / 440))) / round32(math.log(2)))
+    return math.floor(round32(69 + round32(12 * octaves)) + 0.5)
+
+
+def drum_of(midi):
+    return next((name for name, numbers in DRUMS.items() if midi in numbers), "any other")
+
+
+def hit_draws(score, note, sounded):
+    """How many draws a drum makes, of its style, rate and sounded frames."""
+    drum = drum_of(midi_of(single.value(note.pitch)))
+    if (score.style, drum) in EARLY:
+        return min(sounded, (EARLY[score.style, drum] * score.rate + 999) // 1000)
+    silent = drum == "cowbell" or score.style == "808" and drum in ("closed hat", "open hat", "tom")
+    return 0 if silent else sounded
+
+
 def draws_of(score, note, sounded):
-    """How many draws a note makes, of its wave, rate, pitch and sounded frames."""
+    """How many draws a note makes, of its wave, style, rate, pitch and sounded frames."""
+    if score.wave == "kit":
+        return hit_draws(score, note, sounded)
     if score.wave in ("noise", "flute"):
         return sounded
     if score.wave == "piano":
@@ -140,6 +172,14 @@ def note_name(hertz):
     cents = round(100 * (key - nearest))
     name = NAMES[nearest % 12] + str(nearest // 12 - 1)
     return f"{name} {cents:+d} cents" if cents else name
+
+
+def name_of(score, hertz):
+    """What a pitch stands for: the drum that it picks of a kit, else the nearest note."""
+    if score.wave != "kit":
+        return note_name(hertz)
+    midi = midi_of(hertz)
+    return f"{midi}, {drum_of(midi)}"
 
 
 def listing(path):

@@ -2,8 +2,8 @@
 
 use crate::engine::Count;
 use crate::{
-    boards, drawbars, helpers, hop_calls, kernels, kits, mapped_calls, note_calls, progress,
-    random, score_calls, station_calls, texts, tones, voices, wave_files,
+    boards, drawbars, helpers, hop_calls, kernels, kit_notes, kit_scores, kits, mapped_calls,
+    note_calls, progress, random, score_calls, station_calls, texts, tones, voices, wave_files,
 };
 use std::process::{Command, Stdio};
 
@@ -14,7 +14,7 @@ const TEXTS: u64 = 1_000_000;
 /// One row of the table: what is compared, with what, and the run of one case in a number.
 type Part = (&'static str, &'static str, fn(u64) -> Count);
 
-const PARTS: [Part; 16] = [
+const PARTS: [Part; 18] = [
     ("float helpers", "Rust's operations", helpers::run),
     ("kernels", "det.rs and the request's words", |scale| {
         kernels::run_all(kernels::COUNT.div_ceil(scale), scale)
@@ -52,6 +52,14 @@ const PARTS: [Part; 16] = [
         "organs with drawbars",
         "organ_note, its pairs replaced",
         |scale| drawbars::run(drawbars::COUNT.div_ceil(scale)),
+    ),
+    ("hits of the drum kit", "kit_drum", |scale| {
+        kit_notes::run(kit_notes::COUNT.div_ceil(scale))
+    }),
+    (
+        "score calls of the drum kit in lists",
+        "01's tally of each station",
+        |scale| kit_scores::run(kit_scores::COUNT.div_ceil(scale)),
     ),
     ("damaged texts from C", "01's text call", |scale| {
         damaged(&[], TEXTS.div_ceil(scale))

@@ -5,7 +5,7 @@ use crate::harness::{h_note, h_score, NoteArgs, ScoreArgs};
 use crate::hop_bench;
 use crate::mapped_bench;
 use crate::voice_vectors::USUAL;
-use crate::waves::{envelope, voice_of, BARS, WAVES};
+use crate::waves::{envelope, voice_of, BARS, STYLES, WAVES};
 use std::hint::black_box;
 use std::time::Instant;
 use tono::dsl::{SeqNote, SeqWave, TempoPoint, Value};
@@ -35,6 +35,7 @@ pub struct Bench {
     steps_per_beat: u32,
     points: Vec<u32>,
     hop: u32,
+    style: u32,
     lane: Vec<f32>,
     pitch: Vec<f32>,
     duty: Vec<f32>,
@@ -58,6 +59,7 @@ impl Bench {
             steps_per_beat: 1,
             points: Vec::new(),
             hop: 1,
+            style: 0,
             lane: Vec::new(),
             pitch: vec![440.0; frames],
             duty: vec![0.5; frames],
@@ -89,10 +91,21 @@ impl Bench {
         Bench { hop, lane, ..self }
     }
 
+    /// The same of a style of the drum kit and at another pitch.
+    pub fn hit(self, style: u32, pitch: f32) -> Bench {
+        let pitch = vec![pitch; self.pitch.len()];
+        Bench {
+            style,
+            pitch,
+            ..self
+        }
+    }
+
     pub fn our_note(&mut self, wave: u32) -> u32 {
         h_note(NoteArgs {
             rate: RATE,
             wave,
+            style: self.style,
             knobs: &USUAL,
             bars: &BARS,
             gain: GAIN,
@@ -119,6 +132,7 @@ impl Bench {
             humanize: 0.0,
             hop: self.hop,
             wave,
+            style: self.style,
             duty: 0.5,
             knobs: &USUAL,
             bars: &BARS,
@@ -132,7 +146,10 @@ impl Bench {
     }
 
     pub fn their_note(&self, wave: SeqWave) -> Vec<f32> {
-        let voice = voice_of(wave, &USUAL, &BARS);
+        let voice = Voice {
+            kit: STYLES[self.style as usize],
+            ..voice_of(wave, &USUAL, &BARS)
+        };
         let mut rng = Rng::new(1);
         note_signal(&voice, GAIN, &self.pitch, &self.duty, RATE, &mut rng)
     }

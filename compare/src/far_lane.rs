@@ -49,6 +49,7 @@ fn ours(score: &Score, lane: &[f32]) -> (u32, Vec<f32>) {
         humanize: score.humanize,
         hop: score.hop,
         wave: score.wave,
+        style: score.style,
         duty: score.duty,
         knobs: &score.knobs,
         bars: &score.bars,

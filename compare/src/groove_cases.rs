@@ -1,5 +1,7 @@
 //! The cases: each list varies a few arguments and leaves the others as in `BASE`.
 
+use crate::kit_cases;
+
 #[derive(Clone, Copy)]
 pub struct Groove {
     pub rate: u32,
@@ -161,22 +163,25 @@ pub const NOISE: u32 = 4;
 pub const PLUCK: u32 = 6;
 pub const PIANO: u32 = 7;
 pub const FLUTE: u32 = 12;
+pub const KIT: u32 = crate::waves::KIT;
 
 pub struct Draws {
     pub wave: u32,
     pub rate: u32,
     pub pitch: f32,
     pub frames: usize,
+    pub style: u32,
 }
 
 impl Draws {
     pub fn line(&self) -> String {
         format!(
-            "draws {:x} {:x} {:08x} {:x}",
+            "draws {:x} {:x} {:08x} {:x} {:x}",
             self.wave,
             self.rate,
             self.pitch.to_bits(),
-            self.frames
+            self.frames,
+            self.style
         )
     }
 }
@@ -191,6 +196,7 @@ pub fn draws() -> Vec<Draws> {
                 rate,
                 pitch: 440.0,
                 frames,
+                style: 0,
             });
         }
         for pitch in [
@@ -201,6 +207,7 @@ pub fn draws() -> Vec<Draws> {
                 rate,
                 pitch,
                 frames: 100,
+                style: 0,
             });
         }
     }
@@ -211,8 +218,10 @@ pub fn draws() -> Vec<Draws> {
                 rate: 48_000,
                 pitch: 440.0,
                 frames,
+                style: 0,
             });
         }
     }
+    all.extend(kit_cases::draws());
     all
 }

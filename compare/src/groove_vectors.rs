@@ -2,6 +2,7 @@
 //! original's answer.
 
 use crate::groove_cases as cases;
+use crate::kit_cases::made_by_hit;
 use crate::mapped_grooves;
 use crate::tones::quarter_tone;
 use std::fmt::Write as _;
@@ -68,6 +69,7 @@ fn draws_answer(case: &cases::Draws) -> String {
     let draws = match case.wave {
         cases::PLUCK => period(&[case.pitch], case.rate),
         cases::PIANO => (0..case.frames).filter(|&i| thumps(i, case.rate)).count(),
+        cases::KIT => made_by_hit(case),
         _ => case.frames,
     };
     format!("{draws:016x}")

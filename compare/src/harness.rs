@@ -73,6 +73,7 @@ mod raw {
         pub fn h_note(
             rate: u32,
             wave: u32,
+            style: u32,
             knobs: *const f32,
             knobs_len: usize,
             bars: *const f32,
@@ -105,6 +106,7 @@ mod raw {
             humanize: f32,
             hop: u32,
             wave: u32,
+            style: u32,
             duty: f32,
             knobs: *const f32,
             knobs_len: usize,
@@ -130,6 +132,7 @@ mod raw {
 pub struct NoteArgs<'a> {
     pub rate: u32,
     pub wave: u32,
+    pub style: u32,
     pub knobs: &'a [f32],
     pub bars: &'a [f32],
     pub gain: f32,
@@ -148,6 +151,7 @@ pub fn h_note(args: NoteArgs) -> u32 {
         raw::h_note(
             args.rate,
             args.wave,
+            args.style,
             args.knobs.as_ptr(),
             args.knobs.len(),
             args.bars.as_ptr(),
@@ -181,6 +185,7 @@ pub struct ScoreArgs<'a> {
     pub humanize: f32,
     pub hop: u32,
     pub wave: u32,
+    pub style: u32,
     pub duty: f32,
     pub knobs: &'a [f32],
     pub bars: &'a [f32],
@@ -212,6 +217,7 @@ pub fn h_score(args: ScoreArgs) -> u32 {
             args.humanize,
             args.hop,
             args.wave,
+            args.style,
             args.duty,
             args.knobs.as_ptr(),
             args.knobs.len(),

@@ -121,7 +121,7 @@ fn orders() -> Vec<Score> {
         |s| s.words[4] = f32::NAN.to_bits(),
         |s| s.words.extend(tone(0, 1, 256, 0.5)),
         |s| s.lane.clear(),
-        |s| s.wave = 16,
+        |s| s.wave = 18,
     ];
     let mut scores = Vec::new();
     for (i, fault) in faults.iter().enumerate() {
@@ -148,7 +148,7 @@ pub fn edges() -> Vec<Score> {
 /// Calls on one session: every wave with curves at a hop, and refused calls between them.
 pub fn list() -> Vec<Score> {
     let mut scores = Vec::new();
-    for wave in (0..16).chain([17]) {
+    for wave in 0..18 {
         scores.push(with(|s| s.wave = wave));
         if wave % 4 == 0 {
             scores.push(with(|s| (s.wave, s.hop) = (wave, 0)));

@@ -2,8 +2,9 @@
 
 use crate::engine::{compare, Answer, Cases, Count};
 use crate::harness::*;
+use crate::kit_draws::midi;
 use crate::random::{draw, draw_at, state_at};
-use tono::dsl::KitStyle;
+use crate::waves::STYLES;
 use tono::dsp::{self, Rng};
 use tono::render::seq::shim::hit;
 
@@ -15,33 +16,22 @@ const PATTERNS: u64 = 1 << 32;
 /// How many patterns are tried on each side of a rounding border: more than one, since the logarithm may
 /// go down by a unit as the pitch goes up.
 const BESIDE: u64 = 64;
-const STYLES: [KitStyle; 4] = [
-    KitStyle::Classic,
-    KitStyle::Acoustic,
-    KitStyle::Electronic,
-    KitStyle::Eight08,
-];
 /// The styles and drums that draw for a while.
-const EARLY: [(u32, u32); 5] = [(0, 36), (1, 35), (2, 36), (3, 36), (3, 37)];
-const LOWEST_RATE: u64 = 8_000;
-const RATES: u64 = 184_001;
-const USUAL: [u32; 8] = [
+pub const EARLY: [(u32, u32); 5] = [(0, 36), (1, 35), (2, 36), (3, 36), (3, 37)];
+pub const LOWEST_RATE: u64 = 8_000;
+pub const RATES: u64 = 184_001;
+pub const USUAL: [u32; 8] = [
     8_000, 11_025, 16_000, 22_050, 44_100, 48_000, 96_000, 192_000,
 ];
 const FRAMES: [usize; 5] = [1, 2, 40, 400, 4_000];
-const NUMBERS: u64 = 128;
+pub const NUMBERS: u64 = 128;
 
-/// The line of render/kit.rs that has the drum's number.
-fn midi(first: f32) -> i32 {
-    dsp::hz_to_midi(first.max(8.0)).round() as i32
-}
-
-fn pitch_of(midi: u32) -> f32 {
+pub fn pitch_of(midi: u32) -> f32 {
     440.0 * 2f32.powf((midi as f32 - 69.0) / 12.0)
 }
 
 /// Each pattern of a pitch whose number is the first above m, for m from 0 on, found by halving.
-fn borders() -> Vec<u64> {
+pub fn borders() -> Vec<u64> {
     let number = |pattern: u64| midi(f32::from_bits(pattern as u32));
     (0..NUMBERS as i32)
         .map(|m| {

@@ -29,6 +29,11 @@ mod hop_random;
 mod kernel_bench;
 mod kernel_vectors;
 mod kernels;
+mod kit_bench;
+mod kit_cases;
+mod kit_draws;
+mod kit_notes;
+mod kit_scores;
 mod kits;
 mod lent;
 mod libm;
@@ -93,6 +98,9 @@ const USAGE: &str =
        compare kernel-vectors    writes the replay files of crates/det_vectors
        compare libm [SCALE]      where the original's f32 kernels and libm part
        compare kits [SCALE]      the drum's number and the draws of hits; one in SCALE of the pitches and rates
+       compare kit-notes [COUNT] hits of every drum, border and test of time, and COUNT random ones, 10^6 by default
+       compare kit-scores [COUNT [SEED]]  COUNT score calls of the drum kit in lists, 10^6 by default, and a tenth as many texts
+       compare kit-bench         nanoseconds a sample of each drum of each style, library and original, three runs
        compare tones [SCALE]     every q of the quarter tones; one in SCALE of those above 65,535
        compare voices [COUNT]    COUNT notes of each wave, 10^5 by default
        compare notes [COUNT]     COUNT note calls of every outcome, 10^6 by default
@@ -138,6 +146,12 @@ fn main() -> ExitCode {
         ["kernel-bench"] => done(kernel_bench::run()),
         ["kits"] => status(kits::run(1)),
         ["kits", scale] => scaled(scale, |scale| status(kits::run(scale))),
+        ["kit-notes"] => status(kit_notes::run(kit_notes::COUNT)),
+        ["kit-notes", count] => counted(count, kit_notes::run),
+        ["kit-scores"] => status(kit_scores::run(kit_scores::COUNT)),
+        ["kit-scores", count] => counted(count, kit_scores::run),
+        ["kit-scores", count, seed] => counted_from(count, seed, kit_scores::run),
+        ["kit-bench"] => done(kit_bench::run()),
         ["tones"] => status(tones::run(1)),
         ["tones", scale] => scaled(scale, |scale| status(tones::run(scale))),
         ["voices"] => status(voices::run(voices::COUNT)),

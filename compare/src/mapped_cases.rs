@@ -204,7 +204,7 @@ pub fn edges() -> Vec<Score> {
 /// Calls on one session: every wave with a map, and with none or refused calls between them.
 pub fn list() -> Vec<Score> {
     let mut scores = Vec::new();
-    for wave in (0..16).chain([17]) {
+    for wave in 0..18 {
         scores.push(with(|s| s.wave = wave));
         if wave % 4 == 0 {
             scores.push(with(|s| (s.wave, s.points) = (wave, Vec::new())));

@@ -8,7 +8,7 @@ use crate::progress::Progress;
 use crate::random::{state_at, Source};
 use crate::reference::{self, NoteCall};
 use crate::tried::{self, first_of, Tried};
-use crate::waves::{BARS, ORGAN, WAVES};
+use crate::waves::{BARS, KIT, ORGAN, WAVES};
 
 /// How many calls are tried where no number is given.
 pub const COUNT: u64 = 1_000_000;
@@ -18,6 +18,7 @@ const LONG: u64 = 20_000;
 struct Case {
     rate: u32,
     wave: u32,
+    style: u32,
     knobs: Vec<f32>,
     bars: Vec<f32>,
     gain: f32,
@@ -45,6 +46,7 @@ impl Case {
         let mut case = Case {
             rate: s.rate(),
             wave,
+            style: s.style(wave),
             knobs: s.knobs().to_vec(),
             bars: s.bars().to_vec(),
             gain: s.sized(0.0, 1.0),
@@ -55,6 +57,9 @@ impl Case {
             out: n,
             string: s.pick(&[9600, 9600, 9601, 9637]),
         };
+        if wave == KIT {
+            case.pitch[0] = s.pitch(KIT);
+        }
         let faults = s.pick(&[0, 0, 0, 1, 1, 2, 3]);
         for _ in 0..faults {
             case.spoil(s);
@@ -67,7 +72,7 @@ impl Case {
 
     /// One fault of any kind.
     fn spoil(&mut self, s: &mut Source) {
-        match s.below(14) {
+        match s.below(15) {
             0 => self.rate = s.pick(&[0, 7999, 192_001, u32::MAX]),
             1 => s.spoil_one(&mut self.knobs),
             2 => self.string = s.pick(&[0, 1, 9599]),
@@ -82,9 +87,10 @@ impl Case {
             }
             8 => self.out = s.pick(&[0, self.out + 1, self.out.saturating_sub(1)]),
             9 => self.duty.resize(s.pick(&[0, 1, self.out + 1]), 0.5),
-            10 => self.wave = s.pick(&[16, 18, 19, 255, 65_536, u32::MAX]),
+            10 => self.wave = s.pick(&[18, 18, 19, 255, 65_536, u32::MAX]),
             11 => s.spoil_one(&mut self.bars),
             12 => self.bars.resize(s.pick(&[0, 1, 9, 11, 20]), 0.5),
+            13 => self.style = s.no_style(),
             _ => self.knobs.resize(s.pick(&[0, 1, 21, 23, 44]), 0.5),
         }
     }
@@ -93,6 +99,7 @@ impl Case {
         NoteCall {
             rate: self.rate,
             wave: self.wave,
+            style: self.style,
             knobs: &self.knobs,
             bars: &self.bars,
             gain: self.gain,
@@ -117,6 +124,7 @@ impl Case {
         let number = h_note(NoteArgs {
             rate: self.rate,
             wave: self.wave,
+            style: self.style,
             knobs: knobs.part(),
             bars: bars.part(),
             gain: self.gain,

@@ -1,5 +1,6 @@
 //! SplitMix64 in plain Rust, for cases to try and as the reference of the library's generator.
 
+use crate::waves::KIT;
 use std::sync::atomic::{AtomicU64, Ordering};
 
 const GOLDEN_GAMMA: u64 = 0x9E37_79B9_7F4A_7C15;
@@ -128,6 +129,42 @@ impl Source {
             knobs[k] = self.sized(0.0, 3000.0);
         }
         knobs
+    }
+
+    /// A style of the drum kit for a voice of this wave; for other waves mostly the first.
+    pub fn style(&mut self, wave: u32) -> u32 {
+        match self.below(4) {
+            0 => self.below(4) as u32,
+            _ if wave == KIT => self.below(4) as u32,
+            _ => 0,
+        }
+    }
+
+    /// One that is none.
+    pub fn no_style(&mut self) -> u32 {
+        self.pick(&[4, 4, 5, 8, 255, 256, 65_536, 1 << 31, u32::MAX, u32::MAX])
+    }
+
+    /// A drum's pitch: of three of four one that kit.rs names, or beside those; within a quarter tone, at times
+    /// just at the border to the next.
+    pub fn drum_pitch(&mut self) -> f32 {
+        let midi = match self.below(4) {
+            0 => self.below(128),
+            _ => 33 + self.below(29),
+        };
+        let cents = match self.below(8) {
+            0 => self.pick(&[-50.0, 50.0]),
+            _ => self.between(-50.0, 50.0),
+        };
+        440.0 * 2f32.powf((midi as f32 - 69.0 + cents / 100.0) / 12.0)
+    }
+
+    /// A pitch for a note of this wave.
+    pub fn pitch(&mut self, wave: u32) -> f32 {
+        match self.below(4) {
+            1.. if wave == KIT => self.drum_pitch(),
+            _ => self.sized(20.0, 5000.0),
+        }
     }
 
     /// A number at every frame, a glide, or anything.

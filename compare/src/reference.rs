@@ -1,12 +1,13 @@
-//! What document 01, and 02 of tempo maps, of hops, of stations and of drawbars, ask of a note call and of a list of score calls, with
+//! What document 01, and 02 of tempo maps, of hops, of stations, of drawbars and of the drum kit, ask of a note call and of a list of score calls, with
 //! the original's voices, groove and mix for the sound. Nothing here comes from the library. Words in quotes
 //! are theirs.
 
 use crate::grid::{bare, Grid};
+use crate::kit_draws::hit_draws;
 use crate::random::{draw, state_at};
 use crate::tempo_points::{are_outside, are_unordered, points_of};
 use crate::tones::quarter_tone;
-use crate::waves::{envelope, voice_of, wave_at};
+use crate::waves::{envelope, style_at, voice_of, wave_at};
 use std::iter::repeat_n;
 use tono::dsl::{SeqNote, SeqWave, TempoPoint, Value};
 use tono::dsp::Rng;
@@ -21,7 +22,8 @@ const MOST_HOP: u32 = 4096;
 /// "eight headphone stations"
 pub const STATIONS: usize = 8;
 /// C's answer where no call is made: there are not 8 seeds and 8 counts, or not 22 knobs, or not 10 numbers of
-/// drawbars, or not 5 of an envelope, or not four words for each tempo point, or the wave is not one of the 17.
+/// drawbars, or not 5 of an envelope, or not four words for each tempo point, or the wave is not one of the 18, or the
+/// style is above 3.
 pub const NO_CALL: u32 = u32::MAX;
 
 /// What a call comes to. "A refusal returns its number and 0 draws and changes nothing."
@@ -62,6 +64,7 @@ pub fn frames(called: &Called) -> Option<&[f32]> {
 pub struct NoteCall<'a> {
     pub rate: u32,
     pub wave: u32,
+    pub style: u32,
     pub knobs: &'a [f32],
     pub bars: &'a [f32],
     pub gain: f32,
@@ -75,7 +78,10 @@ pub struct NoteCall<'a> {
 pub fn note_call(call: &NoteCall) -> Called {
     let knobs = call.knobs.try_into().ok()?;
     let bars = call.bars.try_into().ok()?;
-    let voice = voice_of(wave_at(call.wave)?, knobs, bars);
+    let voice = Voice {
+        kit: style_at(call.style)?,
+        ..voice_of(wave_at(call.wave)?, knobs, bars)
+    };
     Some(match note_refusal(call) {
         Some(number) => Outcome::Refused(number),
         None => note_played(call, &voice),
@@ -106,7 +112,7 @@ fn note_refusal(call: &NoteCall) -> Option<u32> {
 fn note_played(call: &NoteCall, voice: &Voice) -> Outcome {
     let mut rng = Rng::new(call.state);
     let frames = note_signal(voice, call.gain, call.pitch, call.duty, call.rate, &mut rng);
-    let draws = draws_of(voice.wave, call.rate, call.pitch[0], call.out);
+    let draws = draws_of(voice, call.rate, call.pitch[0], call.out);
     moved(rng, call.state, draws);
     Outcome::Accepted { draws, frames }
 }
@@ -141,12 +147,13 @@ pub fn all_sized(values: &[f32]) -> bool {
 }
 
 /// Demand 3's draws of a note: noise and flute one a frame, pluck one for each value of its string,
-/// piano in the frames before 0.006 seconds, which are 3 / 500 of the rate, rounded up.
-fn draws_of(wave: SeqWave, rate: u32, first_pitch: f32, frames: usize) -> u64 {
-    match wave {
+/// piano in the frames before 0.006 seconds, which are 3 / 500 of the rate, rounded up; the drum kit by style and drum.
+fn draws_of(voice: &Voice, rate: u32, first_pitch: f32, frames: usize) -> u64 {
+    match voice.wave {
         SeqWave::Noise | SeqWave::Flute => frames as u64,
         SeqWave::Pluck => string_period(rate, first_pitch),
         SeqWave::Piano => (frames as u64).min((3 * rate as u64).div_ceil(500)),
+        SeqWave::Kit => hit_draws(voice.kit, rate, first_pitch, frames),
         _ => 0,
     }
 }
@@ -173,6 +180,7 @@ pub struct ScoreCall<'a> {
     pub humanize: f32,
     pub hop: u32,
     pub wave: u32,
+    pub style: u32,
     pub duty: f32,
     pub knobs: &'a [f32],
     pub bars: &'a [f32],
@@ -205,14 +213,14 @@ impl Tally {
     }
 
     /// "Refused: the first refusal that applies gives the number."
-    fn judged(&self, call: &ScoreCall, wave: SeqWave, grid: &Grid) -> Result<Accepted, u32> {
+    fn judged(&self, call: &ScoreCall, voice: &Voice, grid: &Grid) -> Result<Accepted, u32> {
         if let Some(number) = refusal(call, grid) {
             return Err(number);
         }
         let notes = call.words.chunks_exact(5);
         let notes: Vec<SeqNote> = notes.map(|w| call.note(grid, w)).collect();
         // "22 applies exactly when none before it does and d + D passes 2^64 − 1"
-        let draws = notes.iter().map(|note| call.draws(wave, grid, note));
+        let draws = notes.iter().map(|note| call.draws(voice, grid, note));
         let draws: u128 = draws.sum();
         let after = u64::try_from(self.draw as u128 + draws).map_err(|_| 22u32)?;
         Ok(Accepted {
@@ -224,15 +232,15 @@ impl Tally {
 
     /// The draws of a call that is accepted, else the refusal's number, with no sound made.
     pub fn planned(&self, call: &ScoreCall) -> Option<Result<u64, u32>> {
-        let wave = score_voice(call)?.wave;
-        let judged = self.judged(call, wave, &Grid::of(call));
+        let voice = score_voice(call)?;
+        let judged = self.judged(call, &voice, &Grid::of(call));
         Some(judged.map(|accepted| accepted.draws))
     }
 
     /// "It reports 0 draws and d stays" .. "Accepted: it reports D .. d + D, becomes the new d."
     fn score_call(&mut self, call: &ScoreCall, voice: &Voice) -> Outcome {
         let grid = Grid::of(call);
-        let accepted = match self.judged(call, voice.wave, &grid) {
+        let accepted = match self.judged(call, voice, &grid) {
             Err(number) => return Outcome::Refused(number),
             Ok(accepted) => accepted,
         };
@@ -348,6 +356,7 @@ fn score_voice(call: &ScoreCall) -> Option<Voice> {
     let counted = [call.seeds, call.counts] == [STATIONS; 2] && call.points.len() % 4 == 0;
     let wave = wave_at(call.wave).filter(|_| counted)?;
     Some(Voice {
+        kit: style_at(call.style)?,
         duty: call.duty,
         swing: call.swing,
         humanize: call.humanize,
@@ -372,7 +381,7 @@ impl ScoreCall<'_> {
         }
     }
 
-    fn draws(&self, wave: SeqWave, grid: &Grid, note: &SeqNote) -> u128 {
+    fn draws(&self, voice: &Voice, grid: &Grid, note: &SeqNote) -> u128 {
         let Some(frames) = grid.place(note) else {
             return 0;
         };
@@ -381,7 +390,7 @@ impl ScoreCall<'_> {
             Value::Modulated(curve) => curve[0],
             Value::Note(_) => panic!("no note names"),
         };
-        draws_of(wave, self.rate, first_pitch, frames.len()) as u128
+        draws_of(voice, self.rate, first_pitch, frames.len()) as u128
     }
 }
 

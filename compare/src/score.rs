@@ -18,6 +18,8 @@ pub struct Score {
     /// How many frames a value of a curve is read for.
     pub hop: u32,
     pub wave: u32,
+    /// The drum kit's style, which other waves do not read.
+    pub style: u32,
     pub duty: f32,
     pub knobs: Vec<f32>,
     pub bars: Vec<f32>,
@@ -43,6 +45,7 @@ impl Score {
             humanize: self.humanize,
             hop: self.hop,
             wave: self.wave,
+            style: self.style,
             duty: self.duty,
             knobs: &self.knobs,
             bars: &self.bars,

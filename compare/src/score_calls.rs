@@ -107,6 +107,7 @@ impl Buffers {
             humanize: score.humanize,
             hop: score.hop,
             wave: score.wave,
+            style: score.style,
             duty: score.duty,
             knobs: self.knobs.part(),
             bars: self.bars.part(),

@@ -49,6 +49,7 @@ pub fn usual() -> Score {
         humanize: 0.25,
         hop: 1,
         wave: 0,
+        style: 0,
         duty: 0.4,
         knobs: USUAL.to_vec(),
         bars: BARS.to_vec(),
@@ -237,9 +238,8 @@ pub fn drawing() -> [Score; 3] {
 
 /// A list of calls on one session: every wave, and refused calls between them.
 pub fn list() -> Vec<Score> {
-    let places = (0..16).chain([17]);
     let mut scores = Vec::new();
-    for wave in places {
+    for wave in 0..18 {
         scores.push(with(|s| {
             s.wave = wave;
             s.words.extend(note(2, 1, 1500.0, 1.0));

@@ -6,7 +6,7 @@ use crate::reference::STATIONS;
 use crate::score::Score;
 use crate::score_cases::note;
 use crate::tones::TONES;
-use crate::waves::WAVES;
+use crate::waves::{KIT, WAVES};
 
 /// The next number above 1.
 const ABOVE_1: f32 = 1.0 + f32::EPSILON;
@@ -53,6 +53,10 @@ impl Score {
             _ => 1 + steps.min(500.0) as usize,
         };
         let lane = s.pick(&[0, 1, 64, 600, 1600, 1600]);
+        let wave = match s.below(2) {
+            0 => s.pick(&WAVES).0,
+            _ => s.pick(&[4, 6, 7, 12, KIT]),
+        };
         Score {
             seeds: STATIONS,
             counts: STATIONS,
@@ -64,10 +68,8 @@ impl Score {
             swing: part(s),
             humanize: part(s),
             hop: 1,
-            wave: match s.below(2) {
-                0 => s.pick(&WAVES).0,
-                _ => s.pick(&[4, 6, 7, 12]),
-            },
+            wave,
+            style: s.style(wave),
             duty: s.sized(0.0, 1.0),
             knobs: s.knobs().to_vec(),
             bars: s.bars().to_vec(),
@@ -104,7 +106,7 @@ impl Score {
         let (kind, pitch) = match (curve, s.below(3)) {
             (true, _) => (1, self.offset(length, s)),
             (false, 0) => (2, s.below(TONES as u64) as u32),
-            (false, _) => (0, s.sized(20.0, 5000.0).to_bits()),
+            (false, _) => (0, s.pitch(self.wave).to_bits()),
         };
         let gain = s.sized(0.0, 1.0).to_bits();
         self.words.extend([step, len, kind, pitch, gain]);
@@ -113,7 +115,7 @@ impl Score {
     /// A note whose pitch is a number.
     pub fn add_number(&mut self, s: &mut Source) {
         let [step, len] = self.span(s);
-        let (pitch, gain) = (s.sized(20.0, 5000.0), s.sized(0.0, 1.0));
+        let (pitch, gain) = (s.pitch(self.wave), s.sized(0.0, 1.0));
         self.words.extend(note(step, len, pitch, gain));
     }
 
@@ -160,13 +162,14 @@ impl Score {
     }
 
     fn spoil_voice(&mut self, s: &mut Source) {
-        match s.below(6) {
+        match s.below(7) {
             0 => s.spoil_one(&mut self.knobs),
+            5 => self.style = s.no_style(),
             4 => s.spoil_one(&mut self.bars),
             1 => s.spoil_one(&mut self.env),
             2 => self.duty = s.not_sized(),
             3 => s.spoil_one(&mut self.lane),
-            _ => self.wave = s.pick(&[16, 18, 19, 255, 65_536, u32::MAX]),
+            _ => self.wave = s.pick(&[18, 18, 19, 255, 65_536, u32::MAX]),
         }
     }
 

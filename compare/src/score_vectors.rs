@@ -2,6 +2,7 @@
 //! which the session goes on; a line `score` is a call on it.
 
 use crate::hop_cases;
+use crate::kit_cases;
 use crate::mapped_cases;
 use crate::reference::{self, Session, Tally};
 use crate::score::Score;
@@ -30,7 +31,7 @@ fn plain(words: &[u32]) -> String {
 
 fn line(score: &Score) -> String {
     format!(
-        "score {:x} {:08x} {:x} {:08x} {:08x} {:x} {:08x} {:x} {:x} {:x} {:x} {:x} {:x} {:x} {:x} {:x} {:x} {:x}{}{}{}{}{}{}",
+        "score {:x} {:08x} {:x} {:08x} {:08x} {:x} {:08x} {:x} {:x} {:x} {:x} {:x} {:x} {:x} {:x} {:x} {:x} {:x} {:x}{}{}{}{}{}{}",
         score.rate,
         score.tempo.to_bits(),
         score.steps_per_beat,
@@ -49,6 +50,7 @@ fn line(score: &Score) -> String {
         score.hop,
         score.station,
         score.bars.len(),
+        score.style,
         hex(&score.knobs),
         hex(&score.bars),
         hex(&score.env),
@@ -137,6 +139,10 @@ pub fn run() -> io::Result<()> {
     let session = Session::open(0xfeed_beef_0000_0003, 3000);
     replay.list(session, &hop_cases::list());
     for (session, scores) in station_cases::lists() {
+        replay.list(session, &scores);
+    }
+    replay.each(&kit_cases::edges(), 11);
+    for (session, scores) in kit_cases::lists() {
         replay.list(session, &scores);
     }
     let folder = Path::new(FOLDER);

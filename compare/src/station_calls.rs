@@ -51,7 +51,7 @@ const BEHIND: [(u32, &str); 20] = [
 
 impl Score {
     /// A score of any kind on some station, or on none, and rarely a session of other lengths.
-    fn stationed(s: &mut Source) -> Score {
+    pub fn stationed(s: &mut Source) -> Score {
         let mut score = match s.below(4) {
             0 => Score::mapped(s),
             1 => Score::hopped(s),
@@ -94,7 +94,7 @@ fn station(s: &mut Source) -> u32 {
 }
 
 /// Each station at a count of its own, often near the last draw; some of one seed.
-fn opened(scores: &[Score], s: &mut Source) -> Session {
+pub fn opened(scores: &[Score], s: &mut Source) -> Session {
     let mut session = Session::open(0, 0);
     let shared = s.number();
     for k in 0..STATIONS {

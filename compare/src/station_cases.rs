@@ -53,7 +53,7 @@ fn on_none() -> Vec<Score> {
         |s| s.words[4] = f32::NAN.to_bits(),
         |s| s.words.extend(tone(0, 1, 256, 0.5)),
         |s| s.words[8] = 2,
-        |s| s.wave = 16,
+        |s| s.wave = 18,
         |s| s.knobs.truncate(21),
         |s| s.points = vec![0; 3],
     ];
@@ -106,7 +106,7 @@ fn near_the_end() -> (Session, Vec<Score>) {
 /// Every wave on some station, with refused calls between them, on stations that exist and on one that doesn't.
 fn mixed() -> Vec<Score> {
     let mut scores = Vec::new();
-    for (i, wave) in (0..16).chain([17, 4, 6, 7, 12]).enumerate() {
+    for (i, wave) in (0..18).chain([4, 6, 7, 12]).enumerate() {
         let station = (5 * i as u32) % 8;
         scores.push(with(station, |s| {
             s.wave = wave;

@@ -2,7 +2,7 @@
 
 use crate::drawbars::is_bars;
 use crate::score::Score;
-use crate::waves::{own_knobs, ORGAN};
+use crate::waves::{own_knobs, KIT, ORGAN};
 
 #[derive(Clone)]
 pub struct Text {
@@ -19,7 +19,7 @@ pub enum Kind {
 
 impl Text {
     /// A score call's text. Its knobs that the wave doesn't read are not written, nor drawbars that are
-    /// `BARS`, and its pitches are numbers.
+    /// `BARS`, nor the style of a voice that is not a drum kit, and its pitches are numbers.
     pub fn of(score: &Score, seed: u64, draw: u64) -> Text {
         let float = |x: &f32| format!("{:08x}", x.to_bits());
         let mut s = line("S", [score.rate.to_string(), score.out.to_string()]);
@@ -29,6 +29,9 @@ impl Text {
         let mut v = line("V", [score.wave.to_string(), float(&score.duty)]);
         let knobs = &score.knobs[own_knobs(score.wave)];
         v.extend(knobs.iter().map(|x| float(x).into()));
+        if score.wave == KIT {
+            v.push(score.style.to_string().into());
+        }
         if score.wave == ORGAN && !is_bars(&score.bars) {
             v.extend(score.bars.iter().map(|x| float(x).into()));
         }
@@ -60,6 +63,7 @@ impl Text {
         match (letter, field) {
             (_, 0) => Kind::Letter,
             (b"S", 1 | 2 | 4) | (b"G", 2) | (b"V", 1) | (b"N", 1 | 2) => Kind::Decimal,
+            (b"V", 3) if self.lines[line][1] == KIT.to_string().as_bytes() => Kind::Decimal,
             _ => Kind::Hex,
         }
     }

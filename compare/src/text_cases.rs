@@ -2,6 +2,8 @@
 //! faults at once, the waves, and the last draws. A case has a name of one word.
 
 use crate::drawbars::REGISTRATIONS;
+use crate::kit_cases::DRUMS;
+use crate::kits::pitch_of;
 use crate::reference::STATIONS;
 use crate::score::Score;
 use crate::score_cases::note;
@@ -9,7 +11,7 @@ use crate::text::{Kind, Text};
 use crate::text_random::padded;
 use crate::text_reference::{listing, MOST_BYTES};
 use crate::voice_vectors::USUAL;
-use crate::waves::{BARS, ORGAN, WAVES};
+use crate::waves::{BARS, KIT, ORGAN, WAVES};
 
 #[derive(Clone)]
 pub struct Case {
@@ -41,6 +43,7 @@ fn usual(wave: u32) -> Score {
         humanize: 0.25,
         hop: 1,
         wave,
+        style: 0,
         duty: 0.4,
         knobs: USUAL.to_vec(),
         bars: BARS.to_vec(),
@@ -307,6 +310,75 @@ fn drawbars() -> Vec<Case> {
     cases
 }
 
+/// A kit's V line, whose style is written so, in so many fields.
+fn kit_line(styles: &[&str]) -> Vec<u8> {
+    let mut text = text_of(&usual(KIT));
+    text.lines[3].truncate(3);
+    text.lines[3].extend(styles.iter().map(|style| style.as_bytes().to_vec()));
+    text.bytes()
+}
+
+/// The style of a V line on both sides of its limit, in each wrong form, missing, doubled, and of other waves.
+fn styles() -> Vec<Case> {
+    let mut cases = Vec::new();
+    for style in "0 1 2 3 4 5 7 9 10 13 30 255 256 4294967295 4294967296".split(' ') {
+        cases.push(case(format!("kit-style={style}"), kit_line(&[style])));
+    }
+    for (name, change) in DECIMAL_FORMS {
+        let mut text = text_of(&usual(KIT));
+        text.lines[3][3] = change(b"2");
+        cases.push(case(format!("kit-style-{name}"), text.bytes()));
+    }
+    cases.push(case("kit-no-style", kit_line(&[])));
+    cases.push(case("kit-two-styles", kit_line(&["1", "1"])));
+    cases.push(case("kit-style-and-knob", kit_line(&["1", "00000000"])));
+    cases.push(case("kit-knob", kit_line(&["3f800000"])));
+    cases.push(case("kit-knob-and-style", kit_line(&["00000000", "1"])));
+    cases.push(case(
+        "kit-five-styles",
+        kit_line(&["0", "1", "2", "3", "0"]),
+    ));
+    for (wave, name, _) in WAVES.iter().filter(|w| w.0 != KIT) {
+        let mut text = text_of(&usual(*wave));
+        text.lines[3].push(b"0".into());
+        cases.push(case(format!("{name}-style"), text.bytes()));
+    }
+    let mut before_duty = text_of(&usual(KIT));
+    before_duty.lines[3].swap(2, 3);
+    cases.push(case("kit-style-before-duty", before_duty.bytes()));
+    let mut above = text_of(&usual(KIT));
+    above.set(3, 1, "18");
+    cases.push(case("wave-18-style", above.bytes()));
+    cases
+}
+
+/// Drums of each style: a few short hits, a bar of 2,048 frames in which all drums sound, the same at a higher
+/// rate, and the last draws.
+fn kits() -> Vec<Case> {
+    let mut cases = Vec::new();
+    for style in 0..4 {
+        let hit = |step: u32, len: u32, midi: u32| note(step, len, pitch_of(midi), 0.5);
+        let mut short = usual(KIT);
+        (short.style, short.out, short.note_buf) = (style, 40, 40);
+        short.words = [hit(0, 4, 36), hit(1, 2, 38), hit(2, 1, 42), hit(3, 1, 56)].concat();
+        let mut bar = short.clone();
+        (bar.tempo, bar.steps_per_beat, bar.out) = (300.0, 16, 2048);
+        bar.env = vec![0.002, 0.05, 0.7, 0.01, 0.3];
+        let notes = (0..).zip(DRUMS).map(|(i, midi)| hit(i % 20, 20, midi));
+        bar.words = notes.flatten().collect();
+        let mut fast = bar.clone();
+        (fast.rate, fast.tempo) = (48_000, 1000.0);
+        let at = |draw| Text::of(&short, 0xfeed_beef_0000_0002, draw).bytes();
+        let last = u64::MAX - listing(&at(0)).draw;
+        cases.push(case(format!("kit-{style}"), text_of(&short).bytes()));
+        cases.push(case(format!("kit-{style}-bar"), text_of(&bar).bytes()));
+        cases.push(case(format!("kit-{style}-fast"), text_of(&fast).bytes()));
+        cases.push(case(format!("kit-{style}-last-draw"), at(last)));
+        cases.push(case(format!("kit-{style}-past-it"), at(last + 1)));
+    }
+    cases
+}
+
 /// Each wave by a few short notes.
 pub fn waves() -> Vec<Case> {
     let of = |w: &(u32, &str, _)| case(w.1, text_of(&usual(w.0)).bytes());
@@ -431,5 +503,7 @@ pub fn others() -> Vec<Case> {
     for more in [held_waves(), last_draws(), sizes(), orders(), drawbars()] {
         cases.extend(more);
     }
+    cases.extend(styles());
+    cases.extend(kits());
     cases
 }

@@ -8,7 +8,7 @@ pub type OfLines = fn(&mut Text, &mut Source);
 pub type OfBytes = fn(&mut Vec<u8>, &mut Source);
 
 /// Of a text that has a line.
-pub const LINES: [OfLines; 16] = [
+pub const LINES: [OfLines; 17] = [
     odd_value,
     odd_value,
     swap_lines,
@@ -22,6 +22,7 @@ pub const LINES: [OfLines; 16] = [
     trailing_tab,
     carriage_return,
     other_wave,
+    other_style,
     drop_field,
     double_field,
     other_letter,
@@ -125,6 +126,39 @@ fn other_wave(text: &mut Text, s: &mut Source) {
         text.set(3, 1, &wave.to_string());
     }
 }
+
+/// Of a drum kit: a style that is none, or not written as a number is, or beside a second one.
+pub fn other_style(text: &mut Text, s: &mut Source) {
+    let kit: &[u8] = b"16";
+    match text.lines.get_mut(3) {
+        Some(line) if line.len() == 4 && line[1] == kit => match s.below(4) {
+            0 => line.push(vec![s.pick(b"01234")]),
+            _ => line[3] = s.pick(&STYLES).into(),
+        },
+        _ => other_wave(text, s),
+    }
+}
+
+const STYLES: [&[u8]; 18] = [
+    b"0",
+    b"1",
+    b"2",
+    b"3",
+    b"4",
+    b"5",
+    b"10",
+    b"00",
+    b"01",
+    b"03",
+    b"+1",
+    b"-0",
+    b"",
+    b" 1",
+    b"3 ",
+    b"256",
+    b"4294967296",
+    b"00000000",
+];
 
 fn drop_field(text: &mut Text, s: &mut Source) {
     let line = some_line(text, s);

@@ -4,9 +4,9 @@ use crate::drawbars::is_bars;
 use crate::random::Source;
 use crate::score::Score;
 use crate::text::{Kind, Text};
-use crate::text_damage::{replace_byte, BYTES, LINES};
+use crate::text_damage::{other_style, replace_byte, BYTES, LINES};
 use crate::text_reference::{listing, MOST_BYTES};
-use crate::waves::{BARS, ORGAN};
+use crate::waves::{BARS, KIT, ORGAN};
 
 impl Text {
     /// A score of the domain. Most are short; a few have as many frames or notes as a text may have,
@@ -27,6 +27,13 @@ impl Text {
             text.lines[3].extend(written);
         }
         text
+    }
+
+    /// A score of the drum kit.
+    fn kit(s: &mut Source) -> Text {
+        let mut score = Score::played(s);
+        (score.wave, score.style) = (KIT, s.style(KIT));
+        Text::of_random(score, s)
     }
 
     fn of_random(mut score: Score, s: &mut Source) -> Text {
@@ -94,6 +101,23 @@ pub fn organ_text(s: &mut Source) -> Vec<u8> {
         4 => {
             let count = s.below(24) as usize;
             text.lines[3].resize(3 + count, b"3f000000".into());
+            text.bytes()
+        }
+        _ => good_or_not(text, s),
+    }
+}
+
+/// The same of a drum kit, of which half are good, and some have another style, none or two.
+pub fn kit_text(s: &mut Source) -> Vec<u8> {
+    let mut text = Text::kit(s);
+    match s.below(8) {
+        0..4 => text.bytes(),
+        4 => {
+            text.lines[3].truncate(3 + s.below(2) as usize);
+            text.bytes()
+        }
+        5 => {
+            other_style(&mut text, s);
             text.bytes()
         }
         _ => good_or_not(text, s),

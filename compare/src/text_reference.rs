@@ -5,7 +5,7 @@
 use crate::reference::{Outcome, Session, STATIONS};
 use crate::score::Score;
 use crate::vectors::pattern;
-use crate::waves::{own_knobs, wave_at, BARS, ORGAN};
+use crate::waves::{own_knobs, style_at, wave_at, BARS, KIT, ORGAN};
 use std::fmt::Write as _;
 use std::str::FromStr;
 
@@ -124,6 +124,7 @@ fn read(text: &[u8]) -> Option<TextScore> {
             // "a text score has 1"
             hop: 1,
             wave: voice.wave,
+            style: voice.style,
             duty: voice.duty,
             knobs: voice.knobs,
             bars: voice.bars,
@@ -140,13 +141,15 @@ fn read(text: &[u8]) -> Option<TextScore> {
 
 struct Voice {
     wave: u32,
+    style: u32,
     duty: f32,
     knobs: Vec<f32>,
     bars: Vec<f32>,
 }
 
 /// "V wave duty knobs (wave is the place in `SeqWave` from 0, knobs in node.rs order, none for waves
-/// that have none; knobs of the sets not written are 0; 16 and above 17 break the form)"; and 02, Card 14, of
+/// that have none; knobs of the sets not written are 0; 16 and above 17 break the form)"; 02, Card 8: "A V line of wave 16 carries the style, 0 to 3 in the order of
+/// `KitStyle`, after duty; otherwise its form is broken .. 18 and more still break the form"; and Card 14, of
 /// the organ's drawbars: "after duty on the V line, ratio before level .. A V line without the ten uses the
 /// five pairs of `BARS`"
 fn line_v(line: &[&[u8]]) -> Option<Voice> {
@@ -155,31 +158,32 @@ fn line_v(line: &[&[u8]]) -> Option<Voice> {
     let wave = decimal(wave)?;
     wave_at(wave)?;
     let duty = float(duty)?;
-    let set = written.iter().map(|field| float(field));
-    if wave == ORGAN && written.len() == 10 {
-        let (knobs, bars) = (vec![0.0; 22], set.collect::<Option<_>>()?);
-        return Some(Voice {
-            wave,
-            duty,
-            knobs,
-            bars,
-        });
-    }
-    let own = own_knobs(wave);
-    if written.len() != own.len() {
-        return None;
-    }
-    let mut knobs = vec![0.0; 22];
-    for (knob, value) in knobs[own].iter_mut().zip(set) {
-        *knob = value?;
-    }
-    let bars = BARS.to_vec();
-    Some(Voice {
+    let mut voice = Voice {
         wave,
+        style: 0,
         duty,
-        knobs,
-        bars,
-    })
+        knobs: vec![0.0; 22],
+        bars: BARS.to_vec(),
+    };
+    let set = written.iter().map(|field| float(field));
+    match (wave, written) {
+        (KIT, [style]) => {
+            voice.style = decimal(style)?;
+            style_at(voice.style)?;
+        }
+        (KIT, _) => return None,
+        (ORGAN, _) if written.len() == BARS.len() => voice.bars = set.collect::<Option<_>>()?,
+        _ => {
+            let own = own_knobs(wave);
+            if written.len() != own.len() {
+                return None;
+            }
+            for (knob, value) in voice.knobs[own].iter_mut().zip(set) {
+                *knob = value?;
+            }
+        }
+    }
+    Some(voice)
 }
 
 /// "N step len pitch gain .. each of which may stop after pitch", and 02, Card 5: "A line N that stops after

@@ -5,7 +5,7 @@ use crate::harness::tono_play;
 use crate::lent::Lent;
 use crate::progress::Progress;
 use crate::random::Source;
-use crate::text_random::{organ_text, text};
+use crate::text_random::{kit_text, organ_text, text};
 use crate::text_reference::{c_call, listing, Listing, MOST_BYTES};
 use crate::tried::{self, first_of, Tried};
 use std::fs;
@@ -62,9 +62,10 @@ fn try_text(name: &str, text: &[u8], s: &mut Source, tried: &mut Tried) {
     }
     tried.add(asked.number, differs);
     for (kind, is) in kinds(text, &asked) {
-        if is {
-            tried.mark(kind);
-        }
+        tried.mark_if(kind, is);
+    }
+    for (kind, is) in kit_kinds(text, asked.number) {
+        tried.mark_if(kind, is);
     }
 }
 
@@ -80,6 +81,49 @@ fn organ_with(text: &[u8], count: usize) -> bool {
         line.starts_with(b"V\t9\t") && line.split(|&b| b == b'\t').count() == 3 + count
     };
     text.split(|&b| b == b'\n').any(is)
+}
+
+/// The fields after the duty of a drum kit's V line.
+fn kit_fields(text: &[u8]) -> Option<Vec<&[u8]>> {
+    let mut lines = text.split(|&b| b == b'\n');
+    let line = lines.find(|line| line.starts_with(b"V\t16\t"))?;
+    Some(line.split(|&b| b == b'\t').skip(3).collect())
+}
+
+fn kit_kinds(text: &[u8], number: u32) -> [(&'static str, bool); 7] {
+    let fields = kit_fields(text);
+    let has = |count: usize| fields.as_ref().is_some_and(|f| f.len() == count);
+    let style = |style: &[u8]| fields.as_ref().is_some_and(|f| f == &[style]);
+    [
+        (
+            "accepted with a drum kit of style 0",
+            number == 0 && style(b"0"),
+        ),
+        (
+            "accepted with a drum kit of style 1",
+            number == 0 && style(b"1"),
+        ),
+        (
+            "accepted with a drum kit of style 2",
+            number == 0 && style(b"2"),
+        ),
+        (
+            "accepted with a drum kit of style 3",
+            number == 0 && style(b"3"),
+        ),
+        (
+            "a drum kit without a style, refused with 15",
+            number == 15 && has(0),
+        ),
+        (
+            "a drum kit with two styles, refused with 15",
+            number == 15 && has(2),
+        ),
+        (
+            "a drum kit of style 4, refused with 15",
+            number == 15 && style(b"4"),
+        ),
+    ]
 }
 
 fn kinds(text: &[u8], asked: &Listing) -> [(&'static str, bool); 11] {
@@ -161,6 +205,13 @@ fn share(first: u64, count: u64, text: fn(&mut Source) -> Vec<u8>, progress: &Pr
 pub fn run(count: u64) -> Count {
     tried::run("texts", count, |thread, progress| {
         share(thread, count, text, progress)
+    })
+}
+
+/// Compares `count` texts of the drum kit.
+pub fn run_kit(count: u64) -> Count {
+    tried::run("texts of the drum kit", count, |thread, progress| {
+        share(thread, count, kit_text, progress)
     })
 }
 

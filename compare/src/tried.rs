@@ -7,7 +7,7 @@ use crate::waves::WAVES;
 use std::collections::BTreeMap;
 use std::time::Instant;
 
-/// The places that waves stand at, and one that is empty.
+/// The places that waves stand at.
 const PLACES: usize = 18;
 
 #[derive(Default)]

@@ -1,10 +1,11 @@
 //! The replay files of crates/voice_vectors: notes of every wave, with the original's samples.
 
 use crate::drawbars::REGISTRATIONS;
+use crate::kit_cases;
 use crate::random::{draw, draw_at, state_at};
 use crate::vectors::pattern;
 use crate::voices::Note;
-use crate::waves::{BARS, ORGAN, WAVES};
+use crate::waves::{BARS, KIT, ORGAN, WAVES};
 use std::fs;
 use std::io;
 use std::path::Path;
@@ -22,6 +23,7 @@ pub const USUAL: [f32; 22] = [
 
 /// A note by its first values, of which the last goes on.
 struct Case {
+    style: u32,
     rate: u32,
     gain: f32,
     frames: usize,
@@ -34,6 +36,7 @@ struct Case {
 impl Case {
     fn usual(rate: u32, gain: f32, frames: usize, pitch: &[f32]) -> Case {
         Case {
+            style: 0,
             rate,
             gain,
             frames,
@@ -42,6 +45,11 @@ impl Case {
             knobs: USUAL,
             bars: BARS,
         }
+    }
+
+    fn style(mut self, style: u32) -> Case {
+        self.style = style;
+        self
     }
 
     fn knobs(mut self, every: f32) -> Case {
@@ -86,6 +94,19 @@ fn registrations() -> Vec<Case> {
     REGISTRATIONS.iter().map(of).collect()
 }
 
+/// The drum kit's hits, and other waves with a style, which changes nothing.
+fn hits() -> Vec<Case> {
+    let of =
+        |(style, rate, frames, first)| Case::usual(rate, 0.8, frames, &[first, 123.0]).style(style);
+    kit_cases::hits().into_iter().map(of).collect()
+}
+
+fn styled() -> Vec<Case> {
+    [1, 2, 3]
+        .map(|style| Case::usual(48000, 0.8, 4, &[440.0]).style(style))
+        .into()
+}
+
 /// Patterns, each after a space.
 pub fn hex(values: &[f32]) -> String {
     values
@@ -108,6 +129,7 @@ fn prolonged(values: &[f32], n: usize) -> Vec<f32> {
 fn answer(case: &Case, place: u32, wave: SeqWave, state: u64) -> (String, String) {
     let note = Note {
         rate: case.rate,
+        style: case.style,
         gain: case.gain,
         knobs: case.knobs,
         bars: case.bars,
@@ -119,7 +141,8 @@ fn answer(case: &Case, place: u32, wave: SeqWave, state: u64) -> (String, String
     let draws = (0..20_000).find(|&c| draw(state_at(state, c)) == next);
     let after = state_at(state, draws.expect("a note draws less"));
     let line = format!(
-        "note {place:08x} {:08x} {:08x} {state:016x} {:04x} {:04x}{}{}{}{}",
+        "note {place:08x} {:08x} {:08x} {:08x} {state:016x} {:04x} {:04x}{}{}{}{}",
+        case.style,
         case.rate,
         case.gain.to_bits(),
         case.frames,
@@ -141,6 +164,7 @@ pub fn run() -> io::Result<()> {
         if place == ORGAN {
             cases.extend(registrations());
         }
+        cases.extend(if place == KIT { hits() } else { styled() });
         for (i, case) in cases.iter().enumerate() {
             let state = draw_at(7, (place as u64) * 100 + i as u64);
             let (line, answer) = answer(case, place, wave, state);

@@ -4,11 +4,11 @@ use crate::engine::{in_threads, same_values, threads, Count};
 use crate::harness::{h_note, NoteArgs};
 use crate::progress::Progress;
 use crate::random::{draw, Source};
-use crate::waves::{voice_of, WAVES};
+use crate::waves::{voice_of, KIT, STYLES, WAVES};
 use std::time::Instant;
 use tono::dsl::SeqWave;
 use tono::dsp::Rng;
-use tono::voice::note_signal;
+use tono::voice::{note_signal, Voice};
 
 /// How many notes of each wave are tried where no number is given.
 pub const COUNT: u64 = 100_000;
@@ -17,6 +17,7 @@ pub const COUNT: u64 = 100_000;
 pub struct Note {
     pub rate: u32,
     pub gain: f32,
+    pub style: u32,
     pub knobs: [f32; 22],
     pub bars: [f32; 10],
     pub state: u64,
@@ -25,7 +26,7 @@ pub struct Note {
 }
 
 impl Note {
-    pub fn random(seed: u64) -> Note {
+    pub fn random(place: u32, seed: u64) -> Note {
         let mut s = Source::new(seed);
         let rate = s.rate();
         let n = match s.below(4) {
@@ -33,15 +34,20 @@ impl Note {
             1 => 1 + s.below(1500),
             _ => 1 + s.below(300),
         } as usize;
-        Note {
+        let mut note = Note {
             rate,
+            style: s.style(place),
             knobs: s.knobs(),
             bars: s.bars(),
             gain: s.sized(0.0, 1.0),
             state: s.number(),
             pitch: s.curve(n, 20.0, 5000.0),
             duty: s.curve(n, 0.0, 1.0),
+        };
+        if place == KIT {
+            note.pitch[0] = s.pitch(KIT);
         }
+        note
     }
 
     /// The library's samples and the draw that its generator would make next.
@@ -51,6 +57,7 @@ impl Note {
         h_note(NoteArgs {
             rate: self.rate,
             wave: place,
+            style: self.style,
             knobs: &self.knobs,
             bars: &self.bars,
             gain: self.gain,
@@ -67,7 +74,10 @@ impl Note {
     /// The original's.
     pub fn theirs(&self, wave: SeqWave) -> (Vec<f32>, u64) {
         let mut rng = Rng::new(self.state);
-        let voice = voice_of(wave, &self.knobs, &self.bars);
+        let voice = Voice {
+            kit: STYLES[self.style as usize],
+            ..voice_of(wave, &self.knobs, &self.bars)
+        };
         let out = note_signal(
             &voice,
             self.gain,
@@ -97,7 +107,7 @@ fn share(
     let mut string = vec![0.0; 9600];
     let (mut differ, mut shown) = (0, None);
     for i in (first..count).step_by(threads()) {
-        let note = Note::random(i * 32 + place as u64);
+        let note = Note::random(place, i * 32 + place as u64);
         let ours = note.ours(place, &mut string);
         if let Some(at) = first_difference(&ours, &note.theirs(wave)) {
             differ += 1;

@@ -1,11 +1,11 @@
 //! The waves by their places, and a voice of the original's from 22 knobs and 10 numbers of drawbars.
 
 use std::ops::Range;
-use tono::dsl::{Adsr, BassKnobs, FmKnobs, PianoKnobs, PluckKnobs, SeqWave};
+use tono::dsl::{Adsr, BassKnobs, FmKnobs, KitStyle, PianoKnobs, PluckKnobs, SeqWave};
 use tono::voice::{Pairs, Voice, BARS as PAIRS};
 
 /// Each wave with its place in the source's order.
-pub const WAVES: [(u32, &str, SeqWave); 17] = [
+pub const WAVES: [(u32, &str, SeqWave); 18] = [
     (0, "square", SeqWave::Square),
     (1, "triangle", SeqWave::Triangle),
     (2, "sawtooth", SeqWave::Sawtooth),
@@ -22,11 +22,21 @@ pub const WAVES: [(u32, &str, SeqWave); 17] = [
     (13, "mallet", SeqWave::Mallet),
     (14, "bell", SeqWave::Bell),
     (15, "bass", SeqWave::Bass),
+    (16, "kit", SeqWave::Kit),
     (17, "cowbell", SeqWave::Cowbell),
 ];
 
-/// The organ's place.
+/// The organ's place, and the drum kit's.
 pub const ORGAN: u32 = 9;
+pub const KIT: u32 = 16;
+
+/// The styles of the drum kit in the source's order.
+pub const STYLES: [KitStyle; 4] = [
+    KitStyle::Classic,
+    KitStyle::Acoustic,
+    KitStyle::Electronic,
+    KitStyle::Eight08,
+];
 
 /// The original's own drawbars, ratio before level.
 pub const BARS: [f32; 10] = {
@@ -34,10 +44,15 @@ pub const BARS: [f32; 10] = {
     [a.0, a.1, b.0, b.1, c.0, c.1, d.0, d.1, e.0, e.1]
 };
 
-/// The wave at a place; none at 16 and above 17.
+/// The wave at a place; none above 17.
 pub fn wave_at(place: u32) -> Option<SeqWave> {
     let found = WAVES.iter().find(|w| w.0 == place);
     found.map(|w| w.2)
+}
+
+/// The style at a place; none above 3.
+pub fn style_at(place: u32) -> Option<KitStyle> {
+    STYLES.get(place as usize).copied()
 }
 
 /// Which of the 22 knobs a wave reads.
@@ -51,7 +66,8 @@ pub fn own_knobs(wave: u32) -> Range<usize> {
     }
 }
 
-/// A voice for a note alone: knobs in node.rs's order, fm, pluck, piano, bass; drawbars ratio before level.
+/// A voice for a note alone: knobs in node.rs's order, fm, pluck, piano, bass; drawbars ratio before level; of the
+/// first style.
 pub fn voice_of(wave: SeqWave, k: &[f32; 22], bars: &[f32; 10]) -> Voice {
     Voice {
         wave,
@@ -74,6 +90,7 @@ pub fn voice_of(wave: SeqWave, k: &[f32; 22], bars: &[f32; 10]) -> Voice {
             piano_detune: k[10],
             piano_decay: k[11],
         },
+        kit: KitStyle::Classic,
         bass: bass_of(k),
         bars: pairs_of(bars),
         swing: 0.0,

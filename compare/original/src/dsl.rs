@@ -33,7 +33,7 @@ pub enum Shape {
     Saw,
 }
 
-#[derive(Clone, Copy, PartialEq)]
+#[derive(Clone, Copy, PartialEq, Debug)]
 pub enum KitStyle {
     Classic,
     Acoustic,

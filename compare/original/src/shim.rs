@@ -11,7 +11,7 @@ fn with_voice<R>(voice: &Voice, points: &[TempoPoint], act: impl FnOnce(&SeqVoic
         fm: &voice.fm,
         pluck: &voice.pluck,
         piano: &voice.piano,
-        kit: KitStyle::Classic,
+        kit: voice.kit,
         bass: &voice.bass,
         sf2: "",
         sf2_preset: 0,

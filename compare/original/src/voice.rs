@@ -1,7 +1,9 @@
 //! A voice held by value, and the calls on it: by the original as it stands, or, for an organ with other
 //! pairs than its own, by the copy in which those are replaced.
 
-use crate::dsl::{Adsr, BassKnobs, FmKnobs, PianoKnobs, PluckKnobs, SeqNote, SeqWave, TempoPoint};
+use crate::dsl::{
+    Adsr, BassKnobs, FmKnobs, KitStyle, PianoKnobs, PluckKnobs, SeqNote, SeqWave, TempoPoint,
+};
 use crate::dsp::Rng;
 use crate::render::{seq, seq_bars};
 use std::cell::Cell;
@@ -29,6 +31,7 @@ pub struct Voice {
     pub fm: FmKnobs,
     pub pluck: PluckKnobs,
     pub piano: PianoKnobs,
+    pub kit: KitStyle,
     pub bass: BassKnobs,
     pub bars: Pairs,
     pub swing: f32,

@@ -1,5 +1,4 @@
 pub mod Early
 pub mod Thump
 pub mod Periods
-pub mod Few
 pub mod Drawing

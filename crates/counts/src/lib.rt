@@ -1,6 +1,6 @@
-// How many draws a note takes from the session's generator, known before the note is voiced.
-mod draws; // draws.rt: the draw counts
+// How many draws a string and a thump take, known before the note is voiced.
 mod period; // period.rt: the string's period
+mod piano; // piano.rt: the frames of a piano's thump
 
-pub use draws::draw_count;
 pub use period::string_period;
+pub use piano::thump_frames;

@@ -4,6 +4,7 @@ ghost use mathlib.Core.Path.{_≡_};
 ghost use Rattle.dsl.specs.Sized.{allSized};
 ghost use Rattle.dsl.specs.Knobs.{knobList, envList};
 ghost use Rattle.dsl.specs.Drawbars.{BARS};
+use crate::kit::KitStyle;
 use crate::sized::all_sized;
 use crate::wave::SeqWave;
 
@@ -84,8 +85,8 @@ pub struct Adsr {
     pub punch: f32,
 }
 
-// A wave, its knobs and its drawbars. The knobs of the sets that the wave doesn't use are there too, and
-// drawbars whether it is the organ or not.
+// A wave, its knobs, its drawbars and its kit's style. The knobs of the sets that the wave doesn't use are there too,
+// drawbars whether it is the organ or not, and a style whether it is the kit or not.
 pub struct SeqVoice {
     pub wave: SeqWave,
     pub fm: FmKnobs,
@@ -93,6 +94,7 @@ pub struct SeqVoice {
     pub piano: PianoKnobs,
     pub bass: BassKnobs,
     pub bars: Drawbars,
+    pub kit: KitStyle,
 }
 
 // Whether each knob of the four sets and each number of the drawbars is sized.

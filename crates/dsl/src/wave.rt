@@ -2,7 +2,7 @@
 ghost use mathlib.Core.Path.{_≡_};
 ghost use Rattle.dsl.specs.Wave.{waveAt};
 
-// In the source's order, without Kit, whose place there is 16, and Sampler, which is the last.
+// In the source's order, without Sampler, which is the last.
 pub enum SeqWave {
     Square,
     Triangle,
@@ -20,6 +20,7 @@ pub enum SeqWave {
     Mallet,
     Bell,
     Bass,
+    Kit,
     Cowbell,
 }
 
@@ -50,6 +51,7 @@ impl SeqWave {
             13 => WaveAt::Wave(SeqWave::Mallet),
             14 => WaveAt::Wave(SeqWave::Bell),
             15 => WaveAt::Wave(SeqWave::Bass),
+            16 => WaveAt::Wave(SeqWave::Kit),
             17 => WaveAt::Wave(SeqWave::Cowbell),
             _ => WaveAt::Nothing,
         }

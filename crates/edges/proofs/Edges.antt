@@ -10,6 +10,7 @@ use Rattle.ieee.specs.Narrow.{narrowOf}
 use Rattle.ieee.specs.Whole.{whole, roundOf}
 use Rattle.rng.specs.Draw.{biOf}
 use Rattle.osc.specs.Osc.{polyBlep}
+use Rattle.dsl.specs.declared.kit.KitStyle.the-variants.{Classic}
 use Rattle.dsl.specs.declared.wave.SeqWave.the-variants.{Piano}
 use Rattle.dsl.specs.declared.pitch.Pitch.the-variants.{Const}
 use Rattle.dsl.specs.declared.note.SeqNote.{SeqNote}
@@ -17,7 +18,7 @@ use Rattle.dsl.specs.Sized.{c65536}
 use Rattle.groove.specs.Timing.{stepDur, swingDelay, humanDelay, humanGain, grooveOf}
 use Rattle.groove.specs.Length.{lengthOf}
 use Rattle.counts.specs.Period.{periodOf}
-use Rattle.counts.specs.Draws.{drawsOf}
+use Rattle.draws.specs.Draws.{drawsOf}
 
 -- 120
 abbrev c120 : Float
@@ -44,9 +45,9 @@ pub edges
     × (periodOf 44100 c0 ≡ 2205)
     × (periodOf 44100 c65536 ≡ 2)
     -- "Piano draws: 48,000 and 1,000 frames, 288; 44,100 and 1,000, 265; 48,000 and 100, 100."
-    × (drawsOf Piano 48000 c440 1000 ≡ 288)
-    × (drawsOf Piano 44100 c440 1000 ≡ 265)
-    × (drawsOf Piano 48000 c440 100 ≡ 100)
+    × (drawsOf Piano Classic 48000 c440 1000 ≡ 288)
+    × (drawsOf Piano Classic 44100 c440 1000 ≡ 265)
+    × (drawsOf Piano Classic 48000 c440 100 ≡ 100)
     -- "Rate 8,000, tempo 120, 4 a beat, step 1: swing 0, start 1,000; swing 1, 1,500."
     × (grooveOf (note 1 1) c0 c0 dur .start ≡ 1000)
     × (grooveOf (note 1 1) c1 c0 dur .start ≡ 1500)

@@ -7,8 +7,10 @@ ghost use lib.ListN.{length};
 ghost use Rattle.dsl.specs.Domain.{numeric, Frames};
 ghost use Rattle.tempo.specs.Map.{points};
 use dsl::Decoded;
+use dsl::KitStyle;
 use dsl::SeqNote;
 use dsl::SeqWave;
+use dsl::StyleAt;
 use dsl::WaveAt;
 use libc::STDIN_FILENO;
 use tempo::TempoMap;
@@ -129,7 +131,7 @@ fn replay_mapped(line: &[u8]) {
     }
 }
 
-// draws WAVE RATE PITCH FRAMES: how many.
+// draws WAVE RATE PITCH FRAMES STYLE: how many.
 fn replay_draws(line: &[u8]) {
     let WaveAt::Wave(wave) = SeqWave::at(vectors::u32_field(line, 1)) else {
         return;
@@ -142,7 +144,10 @@ fn replay_draws(line: &[u8]) {
         return;
     }
     let frames = vectors::u32_field(line, 4) as usize;
-    let draws = counts::draw_count(wave, rate, vectors::f32_field(line, 3), frames);
+    let StyleAt::Style(style) = KitStyle::at(vectors::u32_field(line, 5)) else {
+        return;
+    };
+    let draws = draws::draw_count(wave, style, rate, vectors::f32_field(line, 3), frames);
     vectors::print_u64(draws as u64);
 }
 

@@ -41,10 +41,10 @@ module _ (e : NoteExport) where
   exported : (x : Called) → noteCalled e ≡ x → Holds x p → e .state ≡ stateAfterCall (e .state₀) x → NoteExported e
   exported x q h s = record { places = rw q h; state = rw q s }
 
-  pub not-called : Nothing ≡ voiceAt (e .wave) (e .knobs) (e .bars) → Holds none p → e .state ≡ e .state₀ → NoteExported e
+  pub not-called : Nothing ≡ voiceAt (e .wave) (e .style) (e .knobs) (e .bars) → Holds none p → e .state ≡ e .state₀ → NoteExported e
   not-called v = exported none (ap (λ (x : VoiceAt). noteCalledWith x e) (sym v))
 
-  module _ (v : SeqVoice) (g : Rng) (a : NoteAnswer) (voice : Voice v ≡ voiceAt (e .wave) (e .knobs) (e .bars)) (state : g .0 ≡ e .state₀) (call : Voiced (callOf e v g a)) where
+  module _ (v : SeqVoice) (g : Rng) (a : NoteAnswer) (voice : Voice v ≡ voiceAt (e .wave) (e .style) (e .knobs) (e .bars)) (state : g .0 ≡ e .state₀) (call : Voiced (callOf e v g a)) where
     abbrev result : Result
     result = noteResultIn (callOf e v g a)
 

@@ -75,10 +75,10 @@ module _ (e : ScoreExport) where
   exported : (x : Called) → scoreCalled e ≡ x → Holds x p → Others x → ScoreExported e
   exported x q h o = record { places = rw q h; counts = rw q (o .0); buffer = rw q (o .1) }
 
-  pub no-voice : voices.Nothing ≡ voiceAt (e .wave) (e .knobs) (e .bars) → Holds none p → Others none → ScoreExported e
+  pub no-voice : voices.Nothing ≡ voiceAt (e .wave) (e .style) (e .knobs) (e .bars) → Holds none p → Others none → ScoreExported e
   no-voice v = exported none (ap (λ (x : VoiceAt). scoreCalledWith x (envAt (e .env)) whole e) (sym v))
 
-  module _ (v : SeqVoice) (voice : Voice v ≡ voiceAt (e .wave) (e .knobs) (e .bars)) where
+  module _ (v : SeqVoice) (voice : Voice v ≡ voiceAt (e .wave) (e .style) (e .knobs) (e .bars)) where
     voiced : (m : EnvAt) → m ≡ envAt (e .env) → scoreCalled e ≡ scoreCalledWith (Voice v) m whole e
     voiced m env = λ j. scoreCalledWith (sym voice j) (sym env j) whole e
 

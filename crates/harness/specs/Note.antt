@@ -16,6 +16,7 @@ use Rattle.harness_knobs.specs.declared.VoiceAt.the-variants.{Voice, Nothing}
 pub record NoteExport : Type 0 where
   pub rate : ℕ
   pub wave : ℕ
+  pub style : ℕ
   pub knobs : List Float
   pub bars : List Float
   pub gain : Float
@@ -42,7 +43,7 @@ noteCalledWith (Voice v) e = made (noteResultOf (handedWith v e) (e .state₀))
 noteCalledWith Nothing e = none
 
 abbrev pub noteCalled : NoteExport → Called
-noteCalled e = noteCalledWith (voiceAt (e .wave) (e .knobs) (e .bars)) e
+noteCalled e = noteCalledWith (voiceAt (e .wave) (e .style) (e .knobs) (e .bars)) e
 
 -- The contract: all is as in the note call of that voice.
 pub record NoteExported (e : NoteExport) : Type 0 where

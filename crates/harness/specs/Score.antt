@@ -29,6 +29,7 @@ pub record ScoreExport : Type 0 where
   pub points : List ℕ
   pub hop : ℕ
   pub wave : ℕ
+  pub style : ℕ
   pub duty : Float
   pub knobs : List Float
   pub bars : List Float
@@ -61,7 +62,7 @@ scoreCalledWith (Voice v) envelopes.Nothing whole e = none
 scoreCalledWith voices.Nothing env whole e = none
 
 abbrev pub scoreCalled : ScoreExport → Called
-scoreCalled e = scoreCalledWith (voiceAt (e .wave) (e .knobs) (e .bars)) (envAt (e .env)) (wholeOf (length (e .seeds)) (length (e .counts₀)) (length (e .points))) e
+scoreCalled e = scoreCalledWith (voiceAt (e .wave) (e .style) (e .knobs) (e .bars)) (envAt (e .env)) (wholeOf (length (e .seeds)) (length (e .counts₀)) (length (e .points))) e
 
 -- The contract: all is as in the score call of that voice and envelope. The note buffer's first n values are free after an accepted call.
 pub record ScoreExported (e : ScoreExport) : Type 0 where

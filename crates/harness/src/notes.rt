@@ -8,12 +8,14 @@ use rng::Rng;
 
 // 0 where the call is accepted, else the refusal's number. `state` is the generator's, and changes
 // only with an accepted call; `draws` gets the draws made, 0 for a refusal. `bars` has the drawbars, ratio
-// before level. Where there is no such wave, or there are not 22 knobs and 10 numbers of drawbars, the
-// answer is 4294967295 and nothing changes.
+// before level. `style` is the place of the kit's style, whatever the wave.
+// Where there is no such wave or style, or there are not 22 knobs and 10 numbers of drawbars, the answer is
+// 4294967295 and nothing changes.
 #[no_mangle]
 pub extern "C" fn h_note(
     rate: u32,
     wave: u32,
+    style: u32,
     knobs: &[f32],
     bars: &[f32],
     gain: f32,
@@ -27,6 +29,7 @@ pub extern "C" fn h_note(
     ensures { λ r. ⌜ NoteExported (record {
       rate = rate;
       wave = wave;
+      style = style;
       knobs = now (knobs .entry);
       bars = now (bars .entry);
       gain = gain;
@@ -45,7 +48,7 @@ pub extern "C" fn h_note(
       };
     }) ⌝ }
 {
-    let VoiceAt::Voice(voice) = voice_at(wave, knobs, bars) else {
+    let VoiceAt::Voice(voice) = voice_at(wave, style, knobs, bars) else {
         return u32::MAX;
     };
     let rng = Rng::new(*state);

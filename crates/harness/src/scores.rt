@@ -17,9 +17,10 @@ use session::Session;
 // 0 where the call is accepted, else the refusal's number. `seeds` and `counts` are the session's, eight of each; the
 // count of the station that is named changes with an accepted call, and nothing else of them.
 // `draws` gets the draws made, 0 for a refusal. `points` has four words a tempo point: the numerator's low
-// and high word, the denominator, the tempo's bits. `bars` has the drawbars, ratio before level. Where there are not
-// eight seeds and counts, there is no such wave, there are not 22 knobs, 10 numbers of drawbars and 5 of an envelope, or
-// `points` is no multiple of four, the answer is 4294967295 and nothing changes.
+// and high word, the denominator, the tempo's bits. `bars` has the drawbars, ratio before level. `style` is the
+// place of the kit's style, whatever the wave. Where there are not eight seeds and counts, there is no such wave or
+// style, there are not 22 knobs, 10 numbers of drawbars and 5 of an envelope, or `points` is no multiple of four, the
+// answer is 4294967295 and nothing changes.
 #[no_mangle]
 pub extern "C" fn h_score(
     seeds: &[u64],
@@ -34,6 +35,7 @@ pub extern "C" fn h_score(
     humanize: f32,
     hop: u32,
     wave: u32,
+    style: u32,
     duty: f32,
     knobs: &[f32],
     bars: &[f32],
@@ -51,6 +53,7 @@ pub extern "C" fn h_score(
       points = now (points .entry);
       hop = hop;
       wave = wave;
+      style = style;
       duty = duty;
       knobs = now (knobs .entry);
       bars = now (bars .entry);
@@ -72,7 +75,7 @@ pub extern "C" fn h_score(
       };
     }) ⌝ }
 {
-    let VoiceAt::Voice(voice) = voice_at(wave, knobs, bars) else {
+    let VoiceAt::Voice(voice) = voice_at(wave, style, knobs, bars) else {
         return u32::MAX;
     };
     let EnvAt::Env(env) = env_at(env) else {

@@ -1,5 +1,5 @@
-// The voice of a wave's place, of 22 knobs and of 10 numbers of drawbars, and the envelope of 5 values: what
-// the calls from C and the outside vectors have in place of a voice and an envelope.
+// The voice of a wave's place, a style's, of 22 knobs and of 10 numbers of drawbars, and the envelope of 5
+// values: what the calls from C and the outside vectors have in place of a voice and an envelope.
 ghost use mathlib.Core.Path.{_≡_};
 ghost use lib.ListN.{length};
 ghost use Rattle.dsl.specs.Sets.{fmBy, pluckBy, pianoBy, bassBy, drawbarsBy};
@@ -8,13 +8,15 @@ use dsl::Adsr;
 use dsl::BassKnobs;
 use dsl::Drawbars;
 use dsl::FmKnobs;
+use dsl::KitStyle;
 use dsl::PianoKnobs;
 use dsl::PluckKnobs;
 use dsl::SeqVoice;
 use dsl::SeqWave;
+use dsl::StyleAt;
 use dsl::WaveAt;
 
-// A voice, or nothing where there is no such wave, or there are not 22 knobs and 10 numbers of drawbars.
+// A voice, or nothing where there is no such wave or style, or there are not 22 knobs and 10 numbers of drawbars.
 pub enum VoiceAt {
     Voice(SeqVoice),
     Nothing,
@@ -98,8 +100,8 @@ fn drawbars(b: &[f32]) -> Drawbars
     }
 }
 
-pub fn voice_at(wave: u32, knobs: &[f32], bars: &[f32]) -> VoiceAt
-    ensures { λ r. ⌜ r ≡ voiceAt wave (now (knobs .entry)) (now (bars .entry)) ⌝ }
+pub fn voice_at(wave: u32, style: u32, knobs: &[f32], bars: &[f32]) -> VoiceAt
+    ensures { λ r. ⌜ r ≡ voiceAt wave style (now (knobs .entry)) (now (bars .entry)) ⌝ }
 {
     if knobs.len() != 22 {
         return VoiceAt::Nothing;
@@ -108,6 +110,9 @@ pub fn voice_at(wave: u32, knobs: &[f32], bars: &[f32]) -> VoiceAt
         return VoiceAt::Nothing;
     }
     let WaveAt::Wave(wave) = SeqWave::at(wave) else {
+        return VoiceAt::Nothing;
+    };
+    let StyleAt::Style(kit) = KitStyle::at(style) else {
         return VoiceAt::Nothing;
     };
     let fm = fm_knobs(knobs);
@@ -122,6 +127,7 @@ pub fn voice_at(wave: u32, knobs: &[f32], bars: &[f32]) -> VoiceAt
         piano,
         bass,
         bars,
+        kit,
     })
 }
 

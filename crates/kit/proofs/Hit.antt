@@ -13,7 +13,8 @@ use Rattle.drum.specs.declared.Drum.{Drum}
 use Rattle.counts.specs.Draws.{passing}
 use Rattle.kit_counts.specs.KitDraws.{drawsAt, kitDraws}
 use Rattle.kit_counts.proofs.Hits.{kit-count}
-use Rattle.kit.specs.Kit.{firstDrum, styleFrames, kitFrames}
+use Rattle.kit_midi.specs.Midi.{firstDrum}
+use Rattle.kit.specs.Kit.{styleFrames, kitFrames}
 
 module _ (style : KitStyle) (first : Float) (rate : ℕ) (rng : Rng) (n : ℕ) {drum : Drum} {srf : Float} where
   pub hit-frames : {out : List Float} → drum ≡ firstDrum first → srf ≡ f32 rate → out ≡ styleFrames style drum srf rng n → out ≡ kitFrames style first rate rng n

@@ -1,1 +1,2 @@
 mod Hit
+pub mod Frames

@@ -6,16 +6,12 @@ use Rattle.ieee.specs.Numbers.{f32}
 use Rattle.rng.specs.declared.Rng.{Rng}
 use Rattle.dsl.specs.declared.kit.KitStyle.{KitStyle}
 use Rattle.dsl.specs.declared.kit.KitStyle.the-variants.{Classic, Acoustic, Electronic, Eight08}
-use Rattle.drum.specs.Drums.{drumOf}
 use Rattle.drum.specs.declared.Drum.{Drum}
-use Rattle.kit_midi.specs.Midi.{midiOf}
+use Rattle.kit_midi.specs.Midi.{firstDrum}
 use Rattle.kit_classic.specs.Classic.{classicFrames}
 use Rattle.kit_acoustic.specs.Acoustic.{acousticFrames}
 use Rattle.kit_electronic.specs.Electronic.{electronicFrames}
 use Rattle.kit_808.specs.Eight08.{eight08Frames}
-
-abbrev pub firstDrum : Float → Drum
-firstDrum first = drumOf (midiOf first)
 
 unfoldable pub styleFrames : KitStyle → Drum → Float → Rng → ℕ → List Float
 styleFrames Classic drum srf rng n = classicFrames drum srf rng n

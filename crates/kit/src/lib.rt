@@ -5,18 +5,10 @@ ghost use lib.ListN.{length};
 ghost use Rattle.dsl.specs.Domain.{Rate, Frames};
 ghost use Rattle.rng.specs.SplitMix64.{stateAfter};
 ghost use Rattle.kit_counts.specs.KitDraws.{kitDraws};
-ghost use Rattle.kit.specs.Kit.{firstDrum, kitFrames};
-use drum::Drum;
+ghost use Rattle.kit_midi.specs.Midi.{firstDrum};
+ghost use Rattle.kit.specs.Kit.{kitFrames};
 use dsl::KitStyle;
 use rng::Rng;
-
-// The drum that a hit plays whose first pitch is `first`.
-pub fn first_drum(first: f32) -> Drum
-    ensures { λ r. ⌜ r ≡ firstDrum first ⌝ }
-{
-    let midi = kit_midi::midi_of(first);
-    drum::drum_of(midi)
-}
 
 // Hands back the generator after the hit's draws.
 pub fn kit_drum(style: KitStyle, first: f32, rate: u32, rng: Rng, out: &mut [f32]) -> Rng
@@ -25,7 +17,7 @@ pub fn kit_drum(style: KitStyle, first: f32, rate: u32, rng: Rng, out: &mut [f32
     ensures { λ _. ⌜ now (out .exit) ≡ kitFrames style first rate rng (length (now (out .entry))) ⌝ }
     ensures { λ r. ⌜ r .0 ≡ stateAfter (rng .0) (kitDraws style (firstDrum first) rate (length (now (out .entry)))) ⌝ }
 {
-    let drum = first_drum(first);
+    let drum = kit_midi::first_drum(first);
     let srf = std::num::nearest_u32_to_f32(rate);
     match style {
         KitStyle::Classic => kit_classic::kit_drum_classic(drum, srf, rng, out),

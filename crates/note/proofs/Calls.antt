@@ -13,7 +13,7 @@ use Rattle.dsl.specs.Domain.{Rate, Frames}
 use Rattle.dsl.specs.Pitch.{valueAt, reading, pitchAt}
 use Rattle.dsl.specs.declared.pitch.Pitch.the-variants.{Curve}
 use Rattle.dsl.proofs.Hop.{each-frame}
-use Rattle.counts.specs.Draws.{drawsOf}
+use Rattle.draws.specs.Draws.{drawsOf}
 use Rattle.voice.specs.Voice.{noteFrames}
 use Rattle.outcome.specs.Answer.{Result, accepted, unless, seen, outAfter, free}
 use Rattle.note_verdict.specs.NoteRefusals.{NoteHanded, noteCallTests, noteCallRefusal}
@@ -58,7 +58,7 @@ module _ (e : NoteEvent) where
   at = noteCallRefusal (noteHandedIn e)
 
   abbrev full : Result
-  full = accepted (drawsOf (e .voice .wave) (e .rate) (getD (e .pitch) 0 nan) (length (e .out₀)))
+  full = accepted (drawsOf (e .voice .wave) (e .voice .kit) (e .rate) (getD (e .pitch) 0 nan) (length (e .out₀)))
       (noteFrames (e .rate) (e .voice) (e .gain) (λ i. getD (e .pitch) i nan) (λ i. getD (e .duty) i nan) (e .rng .0) (length (e .out₀)))
 
   comes-to : {v : Verdict} → v ≡ at → noteResultIn e ≡ unless v full
@@ -74,14 +74,15 @@ module _ (e : NoteEvent) where
         string = ap (drop (free 9600 (noteResultIn e))) s;
       }
 
-  pub accepted-note : Fine ≡ at → (g : Rng) (t : ℕ) → t ≡ drawsOf (e .voice .wave) (e .rate) (getD (e .pitch) 0 nan) (length (e .out₀))
-      → g .0 ≡ stateAfter (e .rng .0) (drawsOf (e .voice .wave) (e .rate) (pitchAt (reading (Curve 0) 1) (e .pitch) 0) (length (e .out₀))) → e .answer ≡ record { rng = g; outcome = Played t }
+  pub accepted-note : Fine ≡ at → (g : Rng) (t : ℕ) → t ≡ drawsOf (e .voice .wave) (e .voice .kit) (e .rate) (getD (e .pitch) 0 nan) (length (e .out₀))
+      → g .0 ≡ stateAfter (e .rng .0) (drawsOf (e .voice .wave) (e .voice .kit) (e .rate) (pitchAt (reading (Curve 0) 1) (e .pitch) 0) (length (e .out₀)))
+      → e .answer ≡ record { rng = g; outcome = Played t }
       → e .out ≡ noteFrames (e .rate) (e .voice) (e .gain) (pitchAt (reading (Curve 0) 1) (e .pitch)) (pitchAt (reading (Curve 0) 1) (e .duty)) (e .rng .0) (length (e .out₀))
       → drop 9600 (e .string) ≡ drop 9600 (e .string₀) → Voiced e
   accepted-note n g t et eg ans o s =
       let q = comes-to n in
       let o′ = o ∙ (λ j. noteFrames (e .rate) (e .voice) (e .gain) (curve0 (e .pitch) j) (curve0 (e .duty) j) (e .rng .0) (length (e .out₀))) in
-      let eg′ = eg ∙ ap (λ (f : ℕ → Float). stateAfter (e .rng .0) (drawsOf (e .voice .wave) (e .rate) (f 0) (length (e .out₀)))) (curve0 (e .pitch)) in record {
+      let eg′ = eg ∙ ap (λ (f : ℕ → Float). stateAfter (e .rng .0) (drawsOf (e .voice .wave) (e .voice .kit) (e .rate) (f 0) (length (e .out₀)))) (curve0 (e .pitch)) in record {
         answer = ap (λ (x : NoteAnswer). seen (x .outcome) (e .out)) ans ∙ (λ j. accepted (et j) (o′ j)) ∙ sym q;
         rng = ap (λ (x : NoteAnswer). x .rng) ans ∙ (λ j. record { 0 = eg′ j }) ∙ ap (rngAfter (e .rng)) (sym q);
         frames = o′ ∙ ap (outAfter (e .out₀)) (sym q);

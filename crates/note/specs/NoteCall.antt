@@ -6,7 +6,7 @@ use lib.ListN.{length, drop, getD}
 use lib.Ieee.{Float, nan}
 use Rattle.rng.specs.SplitMix64.{stateAfter}
 use Rattle.rng.specs.declared.Rng.{Rng}
-use Rattle.counts.specs.Draws.{drawsOf}
+use Rattle.draws.specs.Draws.{drawsOf}
 use Rattle.voice.specs.Voice.{noteFrames}
 use Rattle.dsl.specs.declared.knobs.SeqVoice.{SeqVoice}
 use Rattle.outcome.specs.Answer.{Result, refused, accepted, unless, seen, outAfter, free}
@@ -17,7 +17,7 @@ use Rattle.note.specs.declared.answer.NoteAnswer.{NoteAnswer}
 unfoldable pub noteResultOf : NoteHanded → ℕ → Result
 noteResultOf h g =
     unless (noteCallRefusal h)
-    (accepted (drawsOf (h .voice .wave) (h .rate) (getD (h .pitch) 0 nan) (h .n))
+    (accepted (drawsOf (h .voice .wave) (h .voice .kit) (h .rate) (getD (h .pitch) 0 nan) (h .n))
     (noteFrames (h .rate) (h .voice) (h .gain) (λ i. getD (h .pitch) i nan) (λ i. getD (h .duty) i nan) g (h .n)))
 
 -- What a call was handed and lent, what it answered, and what the lent buffers then hold.

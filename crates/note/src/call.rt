@@ -43,7 +43,8 @@ pub fn seq_note_signal(
         return refused(rng, r);
     }
     let wave = voice.wave;
-    let e = counts::draw_count(wave, rate, pitch[0], n);
+    let kit = voice.kit;
+    let e = draws::draw_count(wave, kit, rate, pitch[0], n);
     let curve = Reading::new(Pitch::Curve(0), 1);
     let after = voice::voice_note(
         rng,

@@ -12,10 +12,10 @@ use Rattle.dsl.specs.Domain.{Frames}
 use Rattle.dsl.specs.declared.note.SeqNote.{SeqNote}
 use Rattle.dsl.specs.declared.note.Decoded.{Decoded}
 use Rattle.dsl.specs.declared.note.Decoded.the-variants.{Note}
-use Rattle.counts.specs.Draws.{drawsOf}
+use Rattle.draws.specs.Draws.{drawsOf}
 use Rattle.groove.proofs.Room.{sounded-some, sounded-none, sounded-within}
 use Rattle.score.proofs.Standing.{sounded-is, len-least, len-under}
-use Rattle.score.specs.Score.{Score, rateIn, waveIn, noteIn, noteCount, place, skips, pitch, drawsIn, noteDraws, sum, scoreDraws, drawsBefore}
+use Rattle.score.specs.Score.{Score, rateIn, waveIn, kitIn, noteIn, noteCount, place, skips, pitch, drawsIn, noteDraws, sum, scoreDraws, drawsBefore}
 
 module _ (s : Score) (m : SeqNote) where
   pub len-most : Frames (s .n) → Frames (place s m .len)
@@ -38,7 +38,7 @@ module _ (s : Score) (m : SeqNote) where
     pub all-within : place s m .start + place s m .sounded ≤ s .n
     all-within = rw (sounded-is (s .seq .timing) (s .n) m) (sounded-within (s .n) _ _ (leb-false (s .n) _ heard))
 
-    pub sounded-draws : drawsOf (waveIn s) (rateIn s) (pitch s m 0) (place s m .sounded) ≡ noteDraws s (Note m)
+    pub sounded-draws : drawsOf (waveIn s) (kitIn s) (rateIn s) (pitch s m 0) (place s m .sounded) ≡ noteDraws s (Note m)
     unfolding noteDraws drawsIn
     sounded-draws = if-false _ heard refl
 

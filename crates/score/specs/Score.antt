@@ -8,6 +8,7 @@ use lib.Ieee.{Float}
 use Rattle.laws.specs.Listed.{listed}
 use Rattle.dsl.specs.Note.{noteOf, ofNote}
 use Rattle.dsl.specs.Pitch.{reading, pitchAt}
+use Rattle.dsl.specs.declared.kit.KitStyle.{KitStyle}
 use Rattle.dsl.specs.declared.wave.SeqWave.{SeqWave}
 use Rattle.dsl.specs.declared.note.SeqNote.{SeqNote}
 use Rattle.dsl.specs.declared.note.Decoded.{Decoded}
@@ -15,7 +16,7 @@ use Rattle.groove.specs.Timing.{stepDur, grooveOf}
 use Rattle.groove.specs.Length.{lengthOf, skipped, soundedOf}
 use Rattle.groove.specs.Mapped.{mappedOf, mappedLength}
 use Rattle.tempo.specs.Map.{points}
-use Rattle.counts.specs.Draws.{drawsOf}
+use Rattle.draws.specs.Draws.{drawsOf}
 use Rattle.score.specs.declared.seq.Seq.{Seq}
 use Rattle.score.specs.declared.seq.Timing.{Timing}
 use Rattle.score.specs.declared.seq.Lent.{Lent}
@@ -44,6 +45,10 @@ module _ (s : Score) where
 
   abbrev pub waveIn : SeqWave
   waveIn = s .seq .voice .wave
+
+  -- the drum kit's style, which no other wave looks at
+  abbrev pub kitIn : KitStyle
+  kitIn = s .seq .voice .kit
 
 -- "A note is five u32 words: step, len, kind .., f32 bits or offset, gain bits"
 unfoldable pub noteAt : List ℕ → ℕ → Decoded
@@ -97,7 +102,7 @@ module _ (s : Score) (m : SeqNote) where
 
   -- e: demand 3's draws of a sounded note; "A skipped note leaves x"
   unfoldable pub drawsIn : ℕ
-  drawsIn = cond skips 0 (drawsOf (waveIn s) (rateIn s) (pitch 0) (place .sounded))
+  drawsIn = cond skips 0 (drawsOf (waveIn s) (kitIn s) (rateIn s) (pitch 0) (place .sounded))
 
 -- the same of five words; those of no kind are refused with 8, and never played
 unfoldable pub noteDraws : Score → Decoded → ℕ

@@ -7,10 +7,10 @@ use native.Mathlib.Omega.{arith}
 use Rattle.dsl.specs.declared.note.SeqNote.{SeqNote}
 use Rattle.dsl.specs.declared.note.Decoded.{Decoded}
 use Rattle.dsl.proofs.Cases.{by-kind}
-use Rattle.counts.proofs.Few.{draws-most}
+use Rattle.draws.proofs.Few.{draws-most}
 use Rattle.outcome.specs.declared.answer.Verdict.the-variants.{Fine}
 use Rattle.score.specs.Refusals.{refusal}
-use Rattle.score.specs.Score.{Score, rateIn, waveIn, noteIn, noteCount, place, skips, pitch, drawsIn, noteDraws, drawsBefore, scoreDraws}
+use Rattle.score.specs.Score.{Score, rateIn, waveIn, kitIn, noteIn, noteCount, place, skips, pitch, drawsIn, noteDraws, drawsBefore, scoreDraws}
 use Rattle.score.proofs.Accepted.{Fit, accepted-score}
 use Rattle.score.proofs.Standing.{len-under, sounded-most}
 use Rattle.score.proofs.Notes.{draws-all}
@@ -27,7 +27,7 @@ module _ (s : Score) (fit : Fit s) where
   drawn-most : (m : SeqNote) → drawsIn s m ≤ most
   unfolding drawsIn
   drawn-most m =
-      let few = draws-most (waveIn s) (rateIn s) (fit .rate) (pitch s m 0) (place s m .sounded) in
+      let few = draws-most (waveIn s) (kitIn s) (rateIn s) (fit .rate) (pitch s m 0) (place s m .sounded) in
       let within = sounded-most (s .seq .timing) (s .n) m in
       let under = len-under (s .seq .timing) (s .n) m (fit .frames) in
       cond-most (skips s m) _ most (omega (arith, few, within, under, fit .frames .most))

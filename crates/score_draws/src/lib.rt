@@ -30,7 +30,8 @@ fn note_draws(seq: Seq, notes: &[u32], lane: &[f32], lent: Lent, k: usize) -> us
     let reading = Reading::new(pitch, seq.hop);
     let voice = seq.voice;
     let wave = voice.wave;
-    counts::draw_count(wave, timing.rate, reading.at(lane, 0), place.sounded)
+    let kit = voice.kit;
+    draws::draw_count(wave, kit, timing.rate, reading.at(lane, 0), place.sounded)
 }
 
 // A sum that may not be more than what is left.

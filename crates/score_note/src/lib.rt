@@ -5,7 +5,7 @@ ghost use lib.ListN.{length, drop};
 ghost use Rattle.rng.specs.SplitMix64.{stateAfter};
 ghost use Rattle.dsl.specs.Domain.{Rate, Frames};
 ghost use Rattle.dsl.specs.Pitch.{reading, pitchAt, reaches};
-ghost use Rattle.counts.specs.Draws.{drawsOf};
+ghost use Rattle.draws.specs.Draws.{drawsOf};
 ghost use Rattle.voice.specs.Voice.{noteFrames};
 ghost use Rattle.mix.specs.Mix.{mixedAt};
 use dsl::Pitch;
@@ -35,7 +35,8 @@ pub fn sound_note(
     requires { ⌜ reaches (reading (note .pitch) (seq .hop)) (length (now lane)) (place .sounded) ⌝ }
     requires { ⌜ length (now out) ≤ length (now «note_buf») ⌝ }
     requires { ⌜ 9600 ≤ length (now string) ⌝ }
-    ensures { λ r. ⌜ r .0 ≡ stateAfter (rng .0) (drawsOf (seq .voice .wave) (seq .timing .rate) (pitchAt (reading (note .pitch) (seq .hop)) (now (lane .entry)) 0) (place .sounded)) ⌝ }
+    ensures { λ r. ⌜ r .0 ≡ stateAfter (rng .0)
+        (drawsOf (seq .voice .wave) (seq .voice .kit) (seq .timing .rate) (pitchAt (reading (note .pitch) (seq .hop)) (now (lane .entry)) 0) (place .sounded)) ⌝ }
     ensures { λ _. ⌜ now (out .exit) ≡ mixedAt (place .start)
         (noteFrames (seq .timing .rate) (seq .voice) (note .gain) (pitchAt (reading (note .pitch) (seq .hop)) (now (lane .entry))) (λ _. seq .duty) (rng .0) (place .sounded))
         (seq .env) (place .len) (seq .timing .rate) (place .gain) (now (out .entry)) ⌝ }

@@ -12,10 +12,10 @@ use Rattle.dsl.specs.Pitch.{reading, pitchAt, reaches}
 use Rattle.dsl.specs.declared.note.SeqNote.{SeqNote}
 use Rattle.dsl.specs.declared.note.Decoded.{Decoded}
 use Rattle.dsl.specs.declared.note.Decoded.the-variants.{Note}
-use Rattle.counts.specs.Draws.{drawsOf}
+use Rattle.draws.specs.Draws.{drawsOf}
 use Rattle.voice.specs.Voice.{noteFrames}
 use Rattle.mix.specs.Mix.{mixedAt}
-use Rattle.score.specs.Score.{Score, rateIn, waveIn, place, noteDraws}
+use Rattle.score.specs.Score.{Score, rateIn, waveIn, kitIn, place, noteDraws}
 use Rattle.score_contract.specs.Frames.{samplesIn, withNote}
 use Rattle.score.specs.declared.place.Place.{Place}
 use Rattle.score.proofs.Accepted.{NoteFine, Fit, sounded-reached}
@@ -34,7 +34,7 @@ module _ (s : Score) (d : Decoded) (m : SeqNote) (p : Place) (is : d ≡ Note m)
         let heard = lt-leb _ _ (rw at at early) in
         rw at (some-sounded s m heard, (all-within s m heard, (len-most s m (fit .frames), sounded-reached s fit m fine)))
 
-    pub sounded-note : (g r : ℕ) (out after : List Float) → r ≡ stateAfter g (drawsOf (waveIn s) (rateIn s) (pitchAt (reading (m .pitch) (s .seq .hop)) (s .lane) 0) (p .sounded))
+    pub sounded-note : (g r : ℕ) (out after : List Float) → r ≡ stateAfter g (drawsOf (waveIn s) (kitIn s) (rateIn s) (pitchAt (reading (m .pitch) (s .seq .hop)) (s .lane) 0) (p .sounded))
         → after ≡ mixedAt (p .start) (noteFrames (rateIn s) (s .seq .voice) (m .gain) (pitchAt (reading (m .pitch) (s .seq .hop)) (s .lane)) (λ _. s .seq .duty) g (p .sounded))
         (s .seq .env) (p .len) (rateIn s) (p .gain) out
         → (r ≡ stateAfter g (noteDraws s d)) × (after ≡ withNote s d g out)

@@ -30,7 +30,8 @@ fn play_note(
     requires { ⌜ length (now «note_buf») ≡ lent .room ⌝ }
     requires { ⌜ length (now string) ≡ lent .string ⌝ }
     ensures { λ r. ⌜ r .0 ≡ stateAfter (rng .0) (noteDraws (scoreOf seq (now (notes .entry)) (now (lane .entry)) lent) (noteIn (scoreOf seq (now (notes .entry)) (now (lane .entry)) lent) k)) ⌝ }
-    ensures { λ _. ⌜ now (out .exit) ≡ withNote (scoreOf seq (now (notes .entry)) (now (lane .entry)) lent) (noteIn (scoreOf seq (now (notes .entry)) (now (lane .entry)) lent) k) (rng .0) (now (out .entry)) ⌝ }
+    ensures { λ _. ⌜ now (out .exit) ≡ withNote (scoreOf seq (now (notes .entry)) (now (lane .entry)) lent)
+        (noteIn (scoreOf seq (now (notes .entry)) (now (lane .entry)) lent) k) (rng .0) (now (out .entry)) ⌝ }
     ensures { λ _. ⌜ drop (lent .n) (now («note_buf» .exit)) ≡ drop (lent .n) (now («note_buf» .entry)) ⌝ }
     ensures { λ _. ⌜ drop 9600 (now (string .exit)) ≡ drop 9600 (now (string .entry)) ⌝ }
 {

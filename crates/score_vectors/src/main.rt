@@ -3,7 +3,7 @@
 // which opens a session, of the seed and the draw count of each station, or a call on it:
 //   score RATE TEMPO STEPS-PER-BEAT SWING HUMANIZE WAVE DUTY N NOTE-BUFFER STRING, then how many
 //   knobs, envelope numbers, note words, lane values and words of tempo points there are, then HOP,
-//   STATION and how many numbers of drawbars there are, and these; the drawbars follow the knobs
+//   STATION, how many numbers of drawbars there are and STYLE, and these; the drawbars follow the knobs
 // The states of a session's eight generators are appended, or a call's number, its draws, the state of its
 // station's generator, the session's eight counts after it and the frames. The state is 0 where no call is
 // made or there is no such station.
@@ -70,13 +70,14 @@ fn voice_of(line: &[u8]) -> VoiceAt {
     let count = vectors::length_field(line, 11, MOST);
     let bar_count = vectors::length_field(line, 18, MOST);
     let wave = vectors::u32_field(line, 6);
-    let values = floats(line, 19);
-    let bars = floats(line, 19 + count);
-    harness_knobs::voice_at(wave, &values[..count], &bars[..bar_count])
+    let style = vectors::u32_field(line, 19);
+    let values = floats(line, 20);
+    let bars = floats(line, 20 + count);
+    harness_knobs::voice_at(wave, style, &values[..count], &bars[..bar_count])
 }
 
 fn env_of(line: &[u8]) -> EnvAt {
-    let from = 19 + vectors::length_field(line, 11, MOST) + vectors::length_field(line, 18, MOST);
+    let from = 20 + vectors::length_field(line, 11, MOST) + vectors::length_field(line, 18, MOST);
     let count = vectors::length_field(line, 12, MOST);
     let values = floats(line, from);
     harness_knobs::env_at(&values[..count])
@@ -84,7 +85,7 @@ fn env_of(line: &[u8]) -> EnvAt {
 
 // The points follow all other values.
 fn map_of(line: &[u8]) -> TempoMap {
-    let from = 19
+    let from = 20
         + vectors::length_field(line, 11, MOST)
         + vectors::length_field(line, 18, MOST)
         + vectors::length_field(line, 12, MOST)
@@ -182,7 +183,7 @@ fn call(line: &[u8], session: Session, seq: Seq, notes: &[u32], lane: &[f32]) ->
 fn score(line: &[u8], session: Session, seq: Seq) -> Session {
     let word_count = vectors::length_field(line, 13, MOST);
     let lane_count = vectors::length_field(line, 14, MOST);
-    let words_at = 19
+    let words_at = 20
         + vectors::length_field(line, 11, MOST)
         + vectors::length_field(line, 18, MOST)
         + vectors::length_field(line, 12, MOST);

@@ -15,7 +15,8 @@ use score::Seq;
 
 // 6, 20, 21, 35, 7 and 11, after what was found before.
 fn lists_verdict(found: Verdict, seq: Seq, notes: &[u32], lane: &[f32], lent: Lent) -> Verdict
-    ensures { λ r. ⌜ r ≡ firstAfter found (voiceTests seq ++ (lentTests (scoreOf seq (now (notes .entry)) (now (lane .entry)) lent) ++ listTests (scoreOf seq (now (notes .entry)) (now (lane .entry)) lent))) ⌝ }
+    ensures { λ r. ⌜ r ≡ firstAfter found (voiceTests seq ++ (lentTests (scoreOf seq (now (notes .entry)) (now (lane .entry)) lent)
+        ++ listTests (scoreOf seq (now (notes .entry)) (now (lane .entry)) lent))) ⌝ }
 {
     let found = or_else(found, !dsl::knobs_sized(seq.voice), Refusal::Knobs);
     let found = or_else(found, !dsl::is_sized(seq.duty), Refusal::Knobs);

@@ -17,14 +17,14 @@ use Rattle.dsl.specs.declared.pitch.Reading.{Reading}
 use Rattle.dsl.specs.declared.pitch.Pitch.the-variants.{Const, Curve}
 use Rattle.dsl.specs.declared.note.SeqNote.{SeqNote}
 use Rattle.dsl.proofs.Reach.{reaches-less, reached-within}
-use Rattle.counts.specs.Draws.{drawsOf}
+use Rattle.draws.specs.Draws.{drawsOf}
 use Rattle.voice.proofs.Own.{note-same}
 use Rattle.outcome.specs.Answer.{accepted}
 use Rattle.outcome.specs.declared.answer.Verdict.the-variants.{Fine}
 use Rattle.outcome.proofs.First.{all-false, inside-is}
 use Rattle.note_verdict.specs.NoteRefusals.{noteCallTests, noteCallRefusal}
 use Rattle.note.specs.NoteCall.{noteResultOf}
-use Rattle.score.specs.Score.{Score, rateIn, waveIn, place, skips, pitch, drawsIn}
+use Rattle.score.specs.Score.{Score, rateIn, waveIn, kitIn, place, skips, pitch, drawsIn}
 use Rattle.score.specs.Refusals.{refusal}
 use Rattle.score.proofs.Accepted.{NoteFine, sounded-reached, Fit, accepted-score, fine-in}
 use Rattle.score.proofs.Notes.{some-sounded, all-within}
@@ -89,9 +89,9 @@ module _ (s : Score) (fit : Fit s) (m : SeqNote) (fine : NoteFine s m) (heard : 
         ),
       )
 
-  drawn : drawsOf (waveIn s) (rateIn s) (getD pitches 0 nan) frames ≡ drawsIn s m
+  drawn : drawsOf (waveIn s) (kitIn s) (rateIn s) (getD pitches 0 nan) frames ≡ drawsIn s m
   unfolding drawsIn
-  drawn = ap (λ (x : Float). drawsOf (waveIn s) (rateIn s) x frames) (listed-at (pitch s m) frames 0 nan some) ∙ if-false _ heard refl
+  drawn = ap (λ (x : Float). drawsOf (waveIn s) (kitIn s) (rateIn s) x frames) (listed-at (pitch s m) frames 0 nan some) ∙ if-false _ heard refl
 
   alone-note : (g : ℕ) → aloneOf s m g ≡ accepted (drawsIn s m) (samplesIn s m g)
   unfolding aloneOf noteResultOf samplesIn

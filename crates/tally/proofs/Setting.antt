@@ -16,6 +16,7 @@ use Rattle.dsl.specs.Note.{noteOf, ofWords}
 use Rattle.dsl.specs.Pitch.{reading, pitchAt, passes}
 use Rattle.dsl.specs.Sized.{allSized, pitchSized}
 use Rattle.dsl.specs.declared.pitch.Pitch.{Pitch}
+use Rattle.dsl.specs.declared.kit.KitStyle.{KitStyle}
 use Rattle.dsl.specs.declared.wave.SeqWave.{SeqWave}
 use Rattle.dsl.specs.declared.note.SeqNote.{SeqNote}
 use Rattle.dsl.specs.declared.note.Untuned.{Untuned}
@@ -26,7 +27,7 @@ use Rattle.groove.specs.Humanize.{seedOf, humanizeDraws}
 use Rattle.groove.specs.Timing.{humanDelay, grooveOf}
 use Rattle.groove.specs.Mapped.{endStep, humanDelay64, mappedOf}
 use Rattle.tempo.specs.Map.{points}
-use Rattle.counts.specs.Draws.{drawsOf}
+use Rattle.draws.specs.Draws.{drawsOf}
 use Rattle.outcome.specs.Answer.{accepted, unless, reported}
 use Rattle.outcome.specs.First.{Test, _⇒_, firstOf, orElse, firstRefusal, outside}
 use Rattle.outcome.specs.declared.answer.Refusal.the-variants.{Kind, Steps, Size, Reach, Tone, Hop, Words, Lane, NoteBuffer, StringBuffer, Draws}
@@ -37,7 +38,7 @@ use Rattle.session.specs.Opened.{stationAt}
 use Rattle.session.specs.declared.station.Station.{Station}
 use Rattle.score.specs.declared.seq.Timing.{Timing}
 use Rattle.score.specs.declared.place.Place.{Place}
-use Rattle.score.specs.Score.{Score, rateIn, waveIn, noteAt, noteIn, noteCount, notesIn, straightPlace, mappedPlace, placeOf, place, skips, pitch, drawsIn, noteDraws, drawsBefore, scoreDraws}
+use Rattle.score.specs.Score.{Score, rateIn, waveIn, kitIn, noteAt, noteIn, noteCount, notesIn, straightPlace, mappedPlace, placeOf, place, skips, pitch, drawsIn, noteDraws, drawsBefore, scoreDraws}
 use Rattle.score.specs.Refusals.{numberTests, voiceTests, lentTests, listTests, callTests, noteRefusal, refusal, refusalAt}
 use Rattle.score.proofs.Notes.{none-sounded, some-sounded, draws-all}
 use Rattle.score_contract.specs.ScoreCall.{Event, scoreIn}
@@ -47,34 +48,34 @@ use Rattle.tally.specs.Setting.{soundedIn, firstIn, gainSized, Alike, Re
 use Rattle.tally.proofs.AllCalls.{one-draw, all-calls}
 
 -- ---- the draws of a note, by its sounded frames and its first pitch
-drawsBy : SeqWave → ℕ → ℕ → Float → ℕ
-drawsBy wave rate zero first = 0
-drawsBy wave rate (suc frames) first = drawsOf wave rate first (suc frames)
+drawsBy : SeqWave → KitStyle → ℕ → ℕ → Float → ℕ
+drawsBy wave kit rate zero first = 0
+drawsBy wave kit rate (suc frames) first = drawsOf wave kit rate first (suc frames)
 
-drawn-some : (wave : SeqWave) (rate frames : ℕ) (first : Float) → 0 < frames → drawsOf wave rate first frames ≡ drawsBy wave rate frames first
+drawn-some : (wave : SeqWave) (kit : KitStyle) (rate frames : ℕ) (first : Float) → 0 < frames → drawsOf wave kit rate first frames ≡ drawsBy wave kit rate frames first
 unfolding drawsBy
-drawn-some wave rate zero first some = absurd (omega arith)
-drawn-some wave rate (suc frames) first some = refl
+drawn-some wave kit rate zero first some = absurd (omega arith)
+drawn-some wave kit rate (suc frames) first some = refl
 
 -- with no frame the first pitch is not read
-drawn-same : (wave : SeqWave) (rate frames : ℕ) (first first′ : Float) → (0 < frames → first ≡ first′) → drawsBy wave rate frames first ≡ drawsBy wave rate frames first′
+drawn-same : (wave : SeqWave) (kit : KitStyle) (rate frames : ℕ) (first first′ : Float) → (0 < frames → first ≡ first′) → drawsBy wave kit rate frames first ≡ drawsBy wave kit rate frames first′
 unfolding drawsBy
-drawn-same wave rate zero first first′ h = refl
-drawn-same wave rate (suc frames) first first′ h = ap (λ (x : Float). drawsOf wave rate x (suc frames)) (h (omega arith))
+drawn-same wave kit rate zero first first′ h = refl
+drawn-same wave kit rate (suc frames) first first′ h = ap (λ (x : Float). drawsOf wave kit rate x (suc frames)) (h (omega arith))
 
 module _ (s : Score) where
-  by-start : (m : SeqNote) (b : Bool) → skips s m ≡ b → drawsIn s m ≡ drawsBy (waveIn s) (rateIn s) (place s m .sounded) (pitch s m 0)
+  by-start : (m : SeqNote) (b : Bool) → skips s m ≡ b → drawsIn s m ≡ drawsBy (waveIn s) (kitIn s) (rateIn s) (place s m .sounded) (pitch s m 0)
   unfolding drawsIn drawsBy
   by-start m true e = rw (e, none-sounded s m e)
-  by-start m false e = rw e (drawn-some _ _ _ _ (some-sounded s m e))
+  by-start m false e = rw e (drawn-some _ _ _ _ _ (some-sounded s m e))
 
-  none-draws : (e : Decoded) → NoNote e → noteDraws s e ≡ drawsBy (waveIn s) (rateIn s) (soundedIn s e) (firstIn s e)
+  none-draws : (e : Decoded) → NoNote e → noteDraws s e ≡ drawsBy (waveIn s) (kitIn s) (rateIn s) (soundedIn s e) (firstIn s e)
   unfolding noteDraws drawsBy
-  none-draws e none = none .other 0 (drawsIn s) ∙ ap (λ (frames : ℕ). drawsBy (waveIn s) (rateIn s) frames (firstIn s e)) (sym (none .other 0 (λ m. place s m .sounded)))
+  none-draws e none = none .other 0 (drawsIn s) ∙ ap (λ (frames : ℕ). drawsBy (waveIn s) (kitIn s) (rateIn s) frames (firstIn s e)) (sym (none .other 0 (λ m. place s m .sounded)))
 
-  note-draws : (e : Decoded) → noteDraws s e ≡ drawsBy (waveIn s) (rateIn s) (soundedIn s e) (firstIn s e)
+  note-draws : (e : Decoded) → noteDraws s e ≡ drawsBy (waveIn s) (kitIn s) (rateIn s) (soundedIn s e) (firstIn s e)
   unfolding noteDraws
-  note-draws = by-kind (λ e. noteDraws s e ≡ drawsBy (waveIn s) (rateIn s) (soundedIn s e) (firstIn s e)) (λ m. by-start m (skips s m) refl) none-draws
+  note-draws = by-kind (λ e. noteDraws s e ≡ drawsBy (waveIn s) (kitIn s) (rateIn s) (soundedIn s e) (firstIn s e)) (λ m. by-start m (skips s m) refl) none-draws
 
 -- ---- alike scores
 module _ (s s′ : Score) (alike : Alike s s′) where
@@ -82,7 +83,7 @@ module _ (s s′ : Score) (alike : Alike s s′) where
   one-same k h =
       let e = noteIn s k in
       let e′ = noteIn s′ k in
-      note-draws s e ∙ drawn-same _ _ _ _ _ (alike .first k h) ∙ (λ j. drawsBy (alike .wave j) (alike .rate j) (alike .sounded k h j) (firstIn s′ e′)) ∙ sym (note-draws s′ e′)
+      note-draws s e ∙ drawn-same _ _ _ _ _ _ (alike .first k h) ∙ (λ j. drawsBy (alike .wave j) (alike .kit j) (alike .rate j) (alike .sounded k h j) (firstIn s′ e′)) ∙ sym (note-draws s′ e′)
 
   pub before-same : (k : ℕ) → k ≤ noteCount s → drawsBefore s k ≡ drawsBefore s′ k
   unfolding drawsBefore
@@ -179,6 +180,7 @@ module _ (s s′ : Score) (r : Reset s s′) where
   pub reset-alike : Alike s s′
   reset-alike = record {
     wave = r .wave;
+    kit = r .kit;
     rate = λ j. r .timing j .rate;
     notes = count-same;
     sounded = reset-read (soundedIn s) (soundedIn s′) (sounded-free s) sounded-same;

@@ -13,7 +13,7 @@ use Rattle.outcome.specs.Answer.{Result, refused, accepted}
 use Rattle.outcome.specs.First.{firstOf}
 use Rattle.outcome.specs.declared.answer.Refusal.{Refusal}
 use Rattle.outcome.specs.declared.answer.Verdict.the-variants.{Fine, Refuse}
-use Rattle.score.specs.Score.{Score, rateIn, waveIn, noteIn, noteCount, place, pitch, noteDraws, scoreDraws}
+use Rattle.score.specs.Score.{Score, rateIn, waveIn, kitIn, noteIn, noteCount, place, pitch, noteDraws, scoreDraws}
 use Rattle.score.specs.Refusals.{voiceTests, refusalAt}
 use Rattle.score_contract.specs.ScoreCall.{Event, scoreIn}
 use Rattle.session.specs.declared.station.Station.{Station}
@@ -35,6 +35,7 @@ gainSized = ofWords true (λ u. sizedOf (u .gain)) (λ m. sizedOf (m .gain))
 -- Two scores of one wave and one rate whose notes have the same sounded frames, and the same first pitch where they sound. Everything else is free.
 pub record Alike (s s′ : Score) : Type 0 where
   pub wave : waveIn s ≡ waveIn s′
+  pub kit : kitIn s ≡ kitIn s′
   pub rate : rateIn s ≡ rateIn s′
   pub notes : noteCount s ≡ noteCount s′
   pub sounded : (k : ℕ) → k < noteCount s → soundedIn s (noteIn s k) ≡ soundedIn s′ (noteIn s′ k)
@@ -48,6 +49,7 @@ pub record Sized (s : Score) : Type 0 where
 -- Two scores that differ in nothing but knobs, drawbars, duty, envelope and the notes' gains, all sized in both: of a note's five words the fifth is the gain.
 pub record Reset (s s′ : Score) : Type 0 where
   pub wave : waveIn s ≡ waveIn s′
+  pub kit : kitIn s ≡ kitIn s′
   pub timing : s .seq .timing ≡ s′ .seq .timing
   pub hop : s .seq .hop ≡ s′ .seq .hop
   pub lane : s .lane ≡ s′ .lane

@@ -7,12 +7,14 @@ use mathlib.Core.Path.{_≡_, refl}
 use mathlib.Core.List.{List, [], _∷_, _++_}
 use lib.Ieee.{binary32, ofBits}
 use Rattle.dsl.specs.Drawbars.{BARS}
+use Rattle.dsl.specs.Kit.{styleAt}
 use Rattle.dsl.specs.Wave.{waveAt}
-use Rattle.dsl.specs.declared.wave.SeqWave.the-variants.{Sawtooth, Fm, Organ}
+use Rattle.dsl.specs.declared.kit.KitStyle.the-variants.{Classic, Eight08}
+use Rattle.dsl.specs.declared.wave.SeqWave.the-variants.{Sawtooth, Fm, Organ, Kit}
 use Rattle.dsl.specs.declared.knobs.SeqVoice.{SeqVoice}
 use Rattle.text_digits.specs.Read.{got, broken, digitOf, byte, hexFrom, digitsFrom, fitting, decimal}
 use Rattle.text_lines.specs.Line.{value, field, fields, before, ending, line, lineS, seedField, drawField, lineG, lineE}
-use Rattle.text_voice_line.specs.Voice.{ends, barCount, knobCount, barsOf, voiceOf, voiceWith, soundOf, lineV}
+use Rattle.text_voice_line.specs.Voice.{ends, barCount, knobCount, barsOf, styleField, voiceOf, voiceWith, soundOf, lineV}
 use Rattle.text_read.specs.Notes.{eitherForm, lineN, notesUpTo, notesOf}
 use Rattle.text_read.specs.Text.{Text, textOf}
 
@@ -53,7 +55,7 @@ abbrev Reads : List String → SeqVoice → List ℕ → Type 0
 Reads ls voice notes = textOf (lines ls) ≡ got (says voice notes) []
 
 abbrev saw : SeqVoice
-saw = voiceWith Sawtooth [] [] [] [] []
+saw = voiceWith Sawtooth Classic [] [] [] [] []
 
 -- drawbars, and the first nine numbers of them as they are written
 abbrev registration : List ℕ
@@ -70,14 +72,16 @@ pub reads :
     × Reads (score ∷ opening ∷ envelope ∷ voicing ∷ "N\t0\t1\t00000000\tbf800000\n" ∷ "N\t4294967295\t12\t7fc00001\n" ∷ []) saw
     (0 ∷ 1 ∷ 0 ∷ 0 ∷ 0xbf800000 ∷ 4294967295 ∷ 12 ∷ 0 ∷ 0x7fc00001 ∷ 0x3f000000 ∷ [])
     -- knobs, of which those of the other sets are 0
-    × Reads (score ∷ opening ∷ envelope ∷ "V\t5\t3f000000\t40000000\t3f800000\t3dcccccd\n" ∷ []) (voiceWith Fm (0x40000000 ∷ 0x3f800000 ∷ 0x3dcccccd ∷ []) [] [] [] []) []
+    × Reads (score ∷ opening ∷ envelope ∷ "V\t5\t3f000000\t40000000\t3f800000\t3dcccccd\n" ∷ []) (voiceWith Fm Classic (0x40000000 ∷ 0x3f800000 ∷ 0x3dcccccd ∷ []) [] [] [] []) []
     -- an organ with drawbars, and one without, which has `BARS`
-    × Reads (score ∷ opening ∷ envelope ∷ "V\t9\t3f000000" ∷ nine ∷ "\t3e800000\n" ∷ []) (voiceWith Organ [] [] [] [] registration) []
-    × Reads (score ∷ opening ∷ envelope ∷ "V\t9\t3f000000\n" ∷ []) (voiceWith Organ [] [] [] [] []) []
+    × Reads (score ∷ opening ∷ envelope ∷ "V\t9\t3f000000" ∷ nine ∷ "\t3e800000\n" ∷ []) (voiceWith Organ Classic [] [] [] [] registration) []
+    × Reads (score ∷ opening ∷ envelope ∷ "V\t9\t3f000000\n" ∷ []) (voiceWith Organ Classic [] [] [] [] []) []
     × (barsOf [] ≡ BARS)
+    -- a kit with its style
+    × Reads (score ∷ opening ∷ envelope ∷ "V\t16\t3f000000\t3\n" ∷ []) (voiceWith Kit Eight08 [] [] [] [] []) []
 unfolding digitOf byte hexFrom digitsFrom fitting decimal value field fields before ending line lineS seedField drawField lineG lineE
-    ends barCount knobCount barsOf voiceOf soundOf lineV eitherForm lineN notesUpTo notesOf textOf waveAt
-reads = (refl, refl, refl, refl, refl, refl, refl)
+    ends barCount knobCount barsOf styleField voiceOf soundOf lineV eitherForm lineN notesUpTo notesOf textOf waveAt styleAt
+reads = (refl, refl, refl, refl, refl, refl, refl, refl)
 
 abbrev Breaks : List String → Type 0
 Breaks ls = textOf (lines ls) ≡ broken
@@ -102,14 +106,18 @@ pub breaks :
     -- a draw of 2^64
     × Breaks (score ∷ "G\t0000000000000000\t18446744073709551616\n" ∷ envelope ∷ voicing ∷ [])
     -- no such wave; a knob missing; one too many
-    × Breaks (score ∷ opening ∷ envelope ∷ "V\t16\t3f000000\n" ∷ [])
     × Breaks (score ∷ opening ∷ envelope ∷ "V\t18\t3f000000\n" ∷ [])
     × Breaks (score ∷ opening ∷ envelope ∷ "V\t5\t3f000000\t40000000\t3f800000\n" ∷ [])
     × Breaks (score ∷ opening ∷ envelope ∷ "V\t2\t3f000000\t00000000\n" ∷ [])
+    -- a kit without a style; of no such style; of two; another wave with one
+    × Breaks (score ∷ opening ∷ envelope ∷ "V\t16\t3f000000\n" ∷ [])
+    × Breaks (score ∷ opening ∷ envelope ∷ "V\t16\t3f000000\t4\n" ∷ [])
+    × Breaks (score ∷ opening ∷ envelope ∷ "V\t16\t3f000000\t0\t0\n" ∷ [])
+    × Breaks (score ∷ opening ∷ envelope ∷ "V\t17\t3f000000\t0\n" ∷ [])
     -- an organ of one, nine and eleven numbers
     × Breaks (score ∷ opening ∷ envelope ∷ "V\t9\t3f000000\t40000000\n" ∷ [])
     × Breaks (score ∷ opening ∷ envelope ∷ "V\t9\t3f000000" ∷ nine ∷ "\n" ∷ [])
     × Breaks (score ∷ opening ∷ envelope ∷ "V\t9\t3f000000" ∷ nine ∷ "\t3e800000\t40000000\n" ∷ [])
 unfolding digitOf byte hexFrom digitsFrom fitting decimal value field fields before ending line lineS seedField drawField lineG lineE
-    ends barCount knobCount barsOf voiceOf soundOf lineV eitherForm lineN notesUpTo notesOf textOf waveAt
-breaks = (refl, refl, refl, refl, refl, refl, refl, refl, refl, refl, refl, refl, refl, refl, refl, refl, refl, refl, refl, refl, refl)
+    ends barCount knobCount barsOf styleField voiceOf soundOf lineV eitherForm lineN notesUpTo notesOf textOf waveAt styleAt
+breaks = (refl, refl, refl, refl, refl, refl, refl, refl, refl, refl, refl, refl, refl, refl, refl, refl, refl, refl, refl, refl, refl, refl, refl, refl)

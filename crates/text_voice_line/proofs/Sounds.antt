@@ -1,4 +1,4 @@
--- Use at the returns of the line V. `knob-waves` names the waves that have knobs or drawbars. Assumes nothing.
+-- Use at the returns of the line V. `knob-waves` names the waves that have knobs, drawbars or a style. Assumes nothing.
 use Prim.Native.Nat.{ℕ, zero, suc, _≤_}
 use mathlib.Core.Path.{_≡_, refl, sym, ap, _∙_}
 use mathlib.Core.List.{List, _∷_}
@@ -9,16 +9,19 @@ use lib.Seq.{length-take-le}
 use lib.Dec.{eqb}
 use lib.Ieee.{binary32, ofBits}
 use Rattle.dsl.specs.Wave.{waveAt}
+use Rattle.dsl.specs.declared.kit.KitStyle.{KitStyle}
 use Rattle.dsl.specs.declared.wave.SeqWave.{SeqWave}
-use Rattle.dsl.specs.declared.wave.SeqWave.the-variants.{Fm, Pluck, Piano, Organ, Bass}
+use Rattle.dsl.specs.declared.wave.SeqWave.the-variants.{Fm, Pluck, Piano, Organ, Bass, Kit}
 use Rattle.dsl.specs.declared.wave.WaveAt.the-variants.{Wave}
 use Rattle.text_digits.specs.Read.{got, broken}
 use Rattle.text_lines.specs.Line.{float, field, ending}
-use Rattle.text_voice_line.specs.Voice.{fmPlace, pluckPlace, pianoPlace, bassPlace, organPlace, ends, barCount, knobCount, voiceOf, soundOf}
+use Rattle.text_voice_line.specs.Voice.{fmPlace, pluckPlace, pianoPlace, bassPlace, organPlace, kitPlace, ends, barCount, knobCount, styleField, voiceOf, soundOf}
 
-pub knob-waves : (waveAt fmPlace ≡ Wave Fm) × (waveAt pluckPlace ≡ Wave Pluck) × (waveAt pianoPlace ≡ Wave Piano) × (waveAt bassPlace ≡ Wave Bass) × (waveAt organPlace ≡ Wave Organ)
+pub knob-waves :
+    (waveAt fmPlace ≡ Wave Fm) × (waveAt pluckPlace ≡ Wave Pluck) × (waveAt pianoPlace ≡ Wave Piano) × (waveAt bassPlace ≡ Wave Bass) × (waveAt organPlace ≡ Wave Organ)
+    × (waveAt kitPlace ≡ Wave Kit)
 unfolding waveAt
-knob-waves = (refl, refl, refl, refl, refl)
+knob-waves = (refl, refl, refl, refl, refl, refl)
 
 both-most : (t : Bool) {x y m : ℕ} → x ≤ m → y ≤ m → cond t x y ≤ m
 both-most true h l = h
@@ -51,15 +54,15 @@ module _ (place : ℕ) (ended : Bool) {k : ℕ} (e : k ≡ knobCount place ended
   pub bits-length : (bits : List ℕ) → length bits ≡ 10 → k ≡ length (take k bits)
   bits-length bits h = sym (length-take-le k bits (bits-few bits h))
 
-  module _ (w : SeqWave) (x : List ℕ) {duty : ℕ} {y : List ℕ} (d : got duty y ≡ field float x) (o : ended ≡ ends y) where
+  module _ (w : SeqWave) (x : List ℕ) {duty : ℕ} {x₁ y : List ℕ} {style : KitStyle} (d : got duty x₁ ≡ field float x) (t : got style y ≡ styleField place x₁) (o : ended ≡ ends y) where
     kinds-written : take k (replicate 10 float) ≡ replicate (knobCount place (ends y)) float
     kinds-written = kinds-are ∙ ap (λ (b : Bool). replicate (knobCount place b) float) o
 
     pub sound-none : broken ≡ ending (take k (replicate 10 float)) y → broken ≡ soundOf place (Wave w) x
     unfolding soundOf
-    sound-none h = rw (← d, ← (rw kinds-written at h))
+    sound-none h = rw (← d, ← t, ← (rw kinds-written at h))
 
     pub sound-read : (bits : List ℕ) {z : List ℕ} → got (take (length (take k (replicate 10 float))) bits) z ≡ ending (take k (replicate 10 float)) y
-        → got (record { voice = voiceOf place w (take k bits); duty = ofBits binary32 duty }) z ≡ soundOf place (Wave w) x
+        → got (record { voice = voiceOf place w style (take k bits); duty = ofBits binary32 duty }) z ≡ soundOf place (Wave w) x
     unfolding soundOf
-    sound-read bits h = rw (← d, ← (rw (← kinds-length, kinds-written) at h))
+    sound-read bits h = rw (← d, ← t, ← (rw (← kinds-length, kinds-written) at h))

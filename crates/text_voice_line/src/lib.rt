@@ -1,18 +1,20 @@
-// The line V of a text score: a wave with its knobs or drawbars, and the duty.
+// The line V of a text score: a wave with its knobs, drawbars or style, and the duty.
 ghost use mathlib.Core.Path.{_≡_};
 ghost use lib.ListN.{drop};
 ghost use Rattle.dsl.specs.Sets.{fmBy, pluckBy, pianoBy, bassBy};
 ghost use Rattle.dsl.specs.declared.wave.WaveAt.the-variants.{Wave};
 ghost use Rattle.text_lines.specs.Line.{floatAt};
-ghost use Rattle.text_voice_line.specs.Voice.{ends, barCount, knobCount, barsOf, voiceWith, voiceOf, soundOf, lineV};
-ghost use Rattle.text_voice_line.specs.Answers.{soundIn};
+ghost use Rattle.text_voice_line.specs.Voice.{ends, barCount, knobCount, barsOf, styleField, voiceWith, voiceOf, soundOf, lineV};
+ghost use Rattle.text_voice_line.specs.Answers.{soundIn, styleIn};
 use dsl::BassKnobs;
 use dsl::Drawbars;
 use dsl::FmKnobs;
+use dsl::KitStyle;
 use dsl::PianoKnobs;
 use dsl::PluckKnobs;
 use dsl::SeqVoice;
 use dsl::SeqWave;
+use dsl::StyleAt;
 use dsl::WaveAt;
 use text_digits::Number;
 use text_digits::Place;
@@ -23,7 +25,7 @@ use text_lines::ending;
 use text_lines::field;
 use text_lines::float_at;
 
-// The places of the waves that have knobs or drawbars.
+// The places of the waves that have knobs, drawbars or a style.
 const FM: u32 = 5;
 
 const PLUCK: u32 = 6;
@@ -33,6 +35,8 @@ const PIANO: u32 = 7;
 const ORGAN: u32 = 9;
 
 const BASS: u32 = 15;
+
+const KIT: u32 = 16;
 
 // Whether the line ends at a place.
 fn ends(s: &[u8], at: usize) -> bool
@@ -148,16 +152,38 @@ fn bars_of(bits: &[u32]) -> Drawbars
     }
 }
 
-// The voice of the bits of each set and of the drawbars.
+pub enum StyleField {
+    At(KitStyle, usize),
+    Broken,
+}
+
+// The kit's style. Other waves have none on their line, and their voices hold the first.
+fn style_field(s: &[u8], at: usize, place: u32) -> StyleField
+    ensures { λ r. ⌜ styleIn (now (s .entry)) r ≡ styleField place (drop at (now (s .entry))) ⌝ }
+{
+    if place != KIT {
+        return StyleField::At(KitStyle::Classic, at);
+    }
+    let Number::At(number, next) = field(s, at, WORD) else {
+        return StyleField::Broken;
+    };
+    let StyleAt::Style(style) = KitStyle::at(number as u32) else {
+        return StyleField::Broken;
+    };
+    StyleField::At(style, next)
+}
+
+// The voice of a style, of the bits of each set and of the drawbars.
 fn voice_with(
     wave: SeqWave,
+    style: KitStyle,
     fm: &[u32],
     pluck: &[u32],
     piano: &[u32],
     bass: &[u32],
     bars: &[u32],
 ) -> SeqVoice
-    ensures { λ r. ⌜ r ≡ voiceWith wave (now (fm .entry)) (now (pluck .entry)) (now (piano .entry)) (now (bass .entry)) (now (bars .entry)) ⌝ }
+    ensures { λ r. ⌜ r ≡ voiceWith wave style (now (fm .entry)) (now (pluck .entry)) (now (piano .entry)) (now (bass .entry)) (now (bars .entry)) ⌝ }
 {
     SeqVoice {
         wave,
@@ -166,30 +192,31 @@ fn voice_with(
         piano: piano_of(piano),
         bass: bass_of(bass),
         bars: bars_of(bars),
+        kit: style,
     }
 }
 
-// The voice of a wave, of its place and the bits of its own knobs or drawbars.
-fn voice_of(place: u32, wave: SeqWave, bits: &[u32]) -> SeqVoice
-    ensures { λ r. ⌜ r ≡ voiceOf place wave (now (bits .entry)) ⌝ }
+// The voice of a wave, of its place, its style and the bits of its own knobs or drawbars.
+fn voice_of(place: u32, wave: SeqWave, style: KitStyle, bits: &[u32]) -> SeqVoice
+    ensures { λ r. ⌜ r ≡ voiceOf place wave style (now (bits .entry)) ⌝ }
 {
     let none = &bits[..0];
     if place == FM {
-        return voice_with(wave, bits, none, none, none, none);
+        return voice_with(wave, style, bits, none, none, none, none);
     }
     if place == PLUCK {
-        return voice_with(wave, none, bits, none, none, none);
+        return voice_with(wave, style, none, bits, none, none, none);
     }
     if place == PIANO {
-        return voice_with(wave, none, none, bits, none, none);
+        return voice_with(wave, style, none, none, bits, none, none);
     }
     if place == BASS {
-        return voice_with(wave, none, none, none, bits, none);
+        return voice_with(wave, style, none, none, none, bits, none);
     }
     if place == ORGAN {
-        return voice_with(wave, none, none, none, none, bits);
+        return voice_with(wave, style, none, none, none, none, bits);
     }
-    voice_with(wave, none, none, none, none, none)
+    voice_with(wave, style, none, none, none, none, none)
 }
 
 pub struct Sound {
@@ -202,11 +229,14 @@ pub enum LineV {
     Broken,
 }
 
-// The duty and the knobs or drawbars of a wave, to the end of its line.
+// The duty, the style and the knobs or drawbars of a wave, to the end of its line.
 fn sound_of(s: &[u8], at: usize, place: u32, wave: SeqWave) -> LineV
     ensures { λ r. ⌜ soundIn (now (s .entry)) r ≡ soundOf place (Wave wave) (drop at (now (s .entry))) ⌝ }
 {
-    let Number::At(duty, first) = field(s, at, FLOAT) else {
+    let Number::At(duty, second) = field(s, at, FLOAT) else {
+        return LineV::Broken;
+    };
+    let StyleField::At(style, first) = style_field(s, second, place) else {
         return LineV::Broken;
     };
     let kinds = [FLOAT; 10];
@@ -216,7 +246,7 @@ fn sound_of(s: &[u8], at: usize, place: u32, wave: SeqWave) -> LineV
         return LineV::Broken;
     };
     let sound = Sound {
-        voice: voice_of(place, wave, &bits[..k]),
+        voice: voice_of(place, wave, style, &bits[..k]),
         duty: rounding::f32_from_bits(duty as u32),
     };
     LineV::At(sound, next)

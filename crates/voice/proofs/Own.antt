@@ -9,7 +9,7 @@ use Rattle.laws.specs.Run.{samples}
 use Rattle.laws.proofs.Fill.{samples-length}
 use Rattle.laws.proofs.Own.{Below, own-frames, own-first}
 use Rattle.dsl.specs.declared.wave.SeqWave.{SeqWave}
-use Rattle.dsl.specs.declared.wave.SeqWave.the-variants.{Square, Triangle, Sawtooth, Sine, Noise, Fm, Pluck, Piano, Epiano, Organ, Strings, Brass, Flute, Mallet, Bell, Bass, Cowbell}
+use Rattle.dsl.specs.declared.wave.SeqWave.the-variants.{Square, Triangle, Sawtooth, Sine, Noise, Fm, Pluck, Piano, Epiano, Organ, Strings, Brass, Flute, Mallet, Bell, Bass, Kit, Cowbell}
 use Rattle.voice_waves.specs.Pulse.{squareAt, triangleAt, squareFrames, triangleFrames}
 use Rattle.voice_waves.specs.Plain.{sawtoothAt, sineAt, sawtoothFrames, sineFrames}
 use Rattle.voice_noise.proofs.Draws.{noise-length}
@@ -28,6 +28,8 @@ use Rattle.voice_piano.specs.Piano.{pianoAt, normOf, soundFrames, pianoFrames}
 use Rattle.voice_piano.specs.Hammer.{blowOf, partialsOf}
 use Rattle.voice_piano.specs.Wires.{pairOf}
 use Rattle.voice_piano.specs.declared.hammer.Partial.{Partial}
+use Rattle.kit.specs.Kit.{kitFrames}
+use Rattle.kit.proofs.Frames.{kit-length, kit-none}
 use Rattle.counts.specs.Period.{periodOf}
 use Rattle.voice.specs.Voice.{waveFrames, noteFrames}
 use Rattle.dsl.specs.declared.knobs.SeqVoice.{SeqVoice}
@@ -70,6 +72,7 @@ module _ (r : ℕ) (v : SeqVoice) (gain : Float) (f f′ d d′ : ℕ → Float)
   wave-same Mallet e = own-frames (λ p. malletAt p gain (f32 r)) _ _ _ f f′ n h
   wave-same Bell e = own-frames (λ p. bellAt p (f32 r)) _ _ _ f f′ n h
   wave-same Bass e = own-frames (λ p. bassAt p (v .bass) gain (f32 r)) _ _ _ f f′ n h
+  wave-same Kit e = own-first (λ first. kitFrames (v .kit) first r (record { 0 = s })) (λ x y. kit-none (v .kit) x y r (record { 0 = s })) f f′ n h
   wave-same Cowbell e = own-frames (λ p i (s : ℕ). cowbellAt p (f32 r) i) _ _ _ f f′ n h
 
 module _ (r : ℕ) (v : SeqVoice) (gain : Float) (f f′ d d′ : ℕ → Float) (s : ℕ) where
@@ -104,6 +107,7 @@ module _ (r : ℕ) (v : SeqVoice) (gain : Float) (f d : ℕ → Float) (s n : �
   wave-length Mallet = samples-length _ _ _ _ n
   wave-length Bell = samples-length _ _ _ _ n
   wave-length Bass = samples-length _ _ _ _ n
+  wave-length Kit = kit-length (v .kit) (f 0) r (record { 0 = s }) n
   wave-length Cowbell = samples-length _ _ _ _ n
 
   pub note-length : length (noteFrames r v gain f d s n) ≡ n

@@ -4,7 +4,7 @@ use mathlib.Core.List.{List}
 use lib.Ieee.{Float}
 use Rattle.ieee.specs.Numbers.{f32}
 use Rattle.dsl.specs.declared.wave.SeqWave.{SeqWave}
-use Rattle.dsl.specs.declared.wave.SeqWave.the-variants.{Square, Triangle, Sawtooth, Sine, Noise, Fm, Pluck, Piano, Epiano, Organ, Strings, Brass, Flute, Mallet, Bell, Bass, Cowbell}
+use Rattle.dsl.specs.declared.wave.SeqWave.the-variants.{Square, Triangle, Sawtooth, Sine, Noise, Fm, Pluck, Piano, Epiano, Organ, Strings, Brass, Flute, Mallet, Bell, Bass, Kit, Cowbell}
 use Rattle.voice_waves.specs.Pulse.{squareFrames, triangleFrames}
 use Rattle.voice_waves.specs.Plain.{sawtoothFrames, sineFrames}
 use Rattle.voice_noise.specs.Noise.{noiseFrames}
@@ -20,6 +20,7 @@ use Rattle.voice_brass.specs.Brass.{brassFrames}
 use Rattle.voice_flute.specs.Flute.{fluteFrames}
 use Rattle.voice_pluck.specs.Pluck.{pluckFrames}
 use Rattle.voice_piano.specs.Piano.{pianoFrames}
+use Rattle.kit.specs.Kit.{kitFrames}
 use Rattle.counts.specs.Period.{periodOf}
 use Rattle.dsl.specs.declared.knobs.SeqVoice.{SeqVoice}
 
@@ -41,6 +42,7 @@ waveFrames Flute r v gain f d s n = fluteFrames f gain (f32 r) (record { 0 = s }
 waveFrames Mallet r v gain f d s n = malletFrames f gain (f32 r) n
 waveFrames Bell r v gain f d s n = bellFrames f (f32 r) n
 waveFrames Bass r v gain f d s n = bassFrames f (v .bass) gain (f32 r) n
+waveFrames Kit r v gain f d s n = kitFrames (v .kit) (f 0) r (record { 0 = s }) n
 waveFrames Cowbell r v gain f d s n = cowbellFrames f (f32 r) n
 
 abbrev pub noteFrames : ℕ → SeqVoice → Float → (ℕ → Float) → (ℕ → Float) → ℕ → ℕ → List Float

@@ -6,7 +6,7 @@ ghost use lib.ListN.{length, drop};
 ghost use Rattle.dsl.specs.Domain.{Rate, Frames};
 ghost use Rattle.dsl.specs.Pitch.{pitchAt, reaches};
 ghost use Rattle.rng.specs.SplitMix64.{stateAfter};
-ghost use Rattle.counts.specs.Draws.{drawsOf};
+ghost use Rattle.draws.specs.Draws.{drawsOf};
 ghost use Rattle.voice.specs.Voice.{noteFrames};
 use dsl::Reading;
 use dsl::SeqVoice;
@@ -33,7 +33,7 @@ pub fn voice_note(
     requires { ⌜ 9600 ≤ length (now string) ⌝ }
     requires { ⌜ reaches pitch (length (now lane)) (length (now out)) ⌝ }
     requires { ⌜ reaches duty (length (now duties)) (length (now out)) ⌝ }
-    ensures { λ r. ⌜ r .0 ≡ stateAfter (rng .0) (drawsOf (voice .wave) rate (pitchAt pitch (now (lane .entry)) 0) (length (now (out .entry)))) ⌝ }
+    ensures { λ r. ⌜ r .0 ≡ stateAfter (rng .0) (drawsOf (voice .wave) (voice .kit) rate (pitchAt pitch (now (lane .entry)) 0) (length (now (out .entry)))) ⌝ }
     ensures { λ _. ⌜ now (out .exit) ≡ noteFrames rate voice gain (pitchAt pitch (now (lane .entry))) (pitchAt duty (now (duties .entry))) (rng .0) (length (now (out .entry))) ⌝ }
     ensures { λ _. ⌜ drop 9600 (now (string .exit)) ≡ drop 9600 (now (string .entry)) ⌝ }
 {
@@ -60,6 +60,10 @@ pub fn voice_note(
         SeqWave::Mallet => voice_mallet::mallet_note(pitch, lane, gain, srf, out),
         SeqWave::Bell => voice_bell::bell_note(pitch, lane, srf, out),
         SeqWave::Bass => voice_bass::bass_note(pitch, lane, voice.bass, gain, srf, out),
+        SeqWave::Kit => {
+            let style = voice.kit;
+            return kit::kit_drum(style, pitch.at(lane, 0), rate, rng, out);
+        }
         SeqWave::Cowbell => voice_cowbell::cowbell(pitch, lane, srf, out),
     }
     rng

@@ -53,7 +53,8 @@ fn brass_block(
 ) -> BrassState
     requires { ⌜ (from ≤ end) × (end ≤ from + 64) × (end ≤ length (now out)) ⌝ }
     requires { ⌜ reaches pitch (length (now lane)) end ⌝ }
-    ensures { λ r. ⌜ Ran (λ x i. brassBy x (pitchAt pitch (now (lane .entry)) i) srf) (λ o. o .sample) (λ o. o .state) nan (now (a .entry)) from end (now (out .entry)) start end (now (out .exit)) r ⌝ }
+    ensures { λ r. ⌜ Ran (λ x i. brassBy x (pitchAt pitch (now (lane .entry)) i) srf) (λ o. o .sample) (λ o. o .state) nan
+        (now (a .entry)) from end (now (out .entry)) start end (now (out .exit)) r ⌝ }
 {
     let mut s = start;
     let mut i = from;

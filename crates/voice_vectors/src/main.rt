@@ -1,5 +1,5 @@
 // Replays notes of every wave whose answers the original gave. A line of standard input names a
-// wave and gives rate, gain, state, frames, the pitches and duties of the first frames, of which the
+// wave and gives style, rate, gain, state, frames, the pitches and duties of the first frames, of which the
 // last goes on, the knobs and the drawbars; the samples and the state after them are appended.
 ghost use Prim.Native.Nat.{_≤_, _<_};
 use harness_knobs::VoiceAt;
@@ -61,7 +61,7 @@ fn print_samples(out: &[f32; 128], frames: usize)
     }
 }
 
-// Fills `out` with the line's note; the generator after it. Where the wave is none, nothing changes.
+// Fills `out` with the line's note; the generator after it. Where the wave or the style is none, nothing changes.
 fn sound(
     line: &[u8],
     set: &[f32],
@@ -70,13 +70,14 @@ fn sound(
     duty: &[f32],
     out: &mut [f32],
 ) -> Rng {
-    let rng = Rng::new(vectors::u64_field(line, 4));
+    let rng = Rng::new(vectors::u64_field(line, 5));
     let wave = vectors::u32_field(line, 1);
-    let VoiceAt::Voice(voice) = harness_knobs::voice_at(wave, set, bars) else {
+    let style = vectors::u32_field(line, 2);
+    let VoiceAt::Voice(voice) = harness_knobs::voice_at(wave, style, set, bars) else {
         return rng;
     };
-    let rate = vectors::u32_field(line, 2);
-    let gain = vectors::f32_field(line, 3);
+    let rate = vectors::u32_field(line, 3);
+    let gain = vectors::f32_field(line, 4);
     let mut string = [0.0f32; 9600];
     let answer = note::seq_note_signal(rng, rate, voice, gain, pitch, duty, out, &mut string);
     answer.rng
@@ -85,10 +86,10 @@ fn sound(
 fn play(line: &[u8], frames: usize, count: usize)
     requires { ⌜ (0 < count) × (count ≤ 128) × (frames ≤ 128) ⌝ }
 {
-    let pitch = values(line, 7, count);
-    let duty = values(line, 7 + count, count);
-    let set = knob_values(line, 7 + 2 * count);
-    let bars = bar_values(line, 29 + 2 * count);
+    let pitch = values(line, 8, count);
+    let duty = values(line, 8 + count, count);
+    let set = knob_values(line, 8 + 2 * count);
+    let bars = bar_values(line, 30 + 2 * count);
     let mut out = [0.0f32; 128];
     let after = sound(
         line,
@@ -105,8 +106,8 @@ fn play(line: &[u8], frames: usize, count: usize)
 // A line whose numbers are out of range gets no answer.
 fn replay_line(line: &[u8]) {
     vectors::print_text(line);
-    let frames = vectors::u64_field(line, 5);
-    let count = vectors::u64_field(line, 6);
+    let frames = vectors::u64_field(line, 6);
+    let count = vectors::u64_field(line, 7);
     if frames <= 128 {
         if 0 < count {
             if count <= 128 {

@@ -26,19 +26,29 @@ unfolding voiceAt
 returns-4 c =
     let b4 = c .before .before .before .before in
     let b6 = c .before .before .before .before .before .before in
+    let b7 = c .before .before .before .before .before .before .before in
     let b8 = c .before .before .before .before .before .before .before .before in
-    let b9 = c .before .before .before .before .before .before .before .before .before in
-    let b10 = c .before .before .before .before .before .before .before .before .before .before in
-    if-true _ (eq-eqb _ _ (b10 .if1 .left))
-    (if-true _ (eq-eqb _ _ (b9 .if2 .left))
+    if-true _ (eq-eqb _ _ (b8 .if1 .left))
+    (if-true _ (eq-eqb _ _ (b7 .if2 .left)) (rw (← (b6 .at .ensures), b4 .wave .given .1, ← (c .before .before .at2 .ensures), c .enum-told2 .given .1)))
+
+drawbars-requires : tie.Need-drawbars-requires
+drawbars-requires c κs = c .before .before .before .before .before .before .before .before .before .before .before .before .if2 .left
+
+returns-5 : tie.Need-returns-5
+unfolding voiceAt
+returns-5 c =
+    if-true _ (eq-eqb _ _ (c .before .before .before .before .before .before .before .before .before .before .before .before .before .before .if1 .left))
+    (if-true _ (eq-eqb _ _ (c .before .before .before .before .before .before .before .before .before .before .before .before .before .if2 .left))
     (rw (
-      ← (b8 .at .ensures),
-      b6 .wave .given .1,
+      ← (c .before .before .before .before .before .before .before .before .before .before .before .before .at .ensures),
+      c .before .before .before .before .before .before .before .before .before .before .wave .given .1,
+      ← (c .before .before .before .before .before .before .before .before .at2 .ensures),
+      c .before .before .before .before .before .before .kit .given .1,
       c .drawbars .ensures,
       c .before .bass-knobs .ensures,
       c .before .before .piano-knobs .ensures,
       c .before .before .before .pluck-knobs .ensures,
-      b4 .fm-knobs .ensures,
+      c .before .before .before .before .fm-knobs .ensures,
     )))
 
 pub voice-at-spec : {M : Type 1} → statement M
@@ -52,8 +62,12 @@ voice-at-spec =
     (λ c. search needs)
     returns-3
     (λ c κs. search needs)
+    (λ c. search needs)
+    (λ c. search needs)
+    returns-4
     (λ c κs. search needs)
     (λ c κs. search needs)
     (λ c κs. search needs)
     (λ c κs. search needs)
-    returns-4)
+    drawbars-requires
+    returns-5)

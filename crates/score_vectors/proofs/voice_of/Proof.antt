@@ -6,15 +6,16 @@ use Rattle.score_vectors.proofs.voice_of.Statement.{statement}
 use Rattle.score_vectors.proofs.voice_of.Tie as tie
 
 slice-aggregate-voice-at : tie.Need-slice-aggregate-voice-at
-slice-aggregate-voice-at c = sym (length-take-le (c .before .before .before .before .before .length-field .result) (c .before .before .floats .result) (search needs))
+slice-aggregate-voice-at c = sym (length-take-le (c .before .before .before .before .before .before .length-field .result) (c .before .before .floats .result) (search needs))
 
 slice-aggregate-voice-at-2 : tie.Need-slice-aggregate-voice-at-2
-slice-aggregate-voice-at-2 c = sym (length-take-le (c .before .before .before .before .before .length-field2 .result) (c .before .before .floats2 .result) (search needs))
+slice-aggregate-voice-at-2 c = sym (length-take-le (c .before .before .before .before .before .before .length-field2 .result) (c .before .before .floats2 .result) (search needs))
 
 pub voice-of-spec : {M : Type 1} → statement M
 voice-of-spec =
     tie.close
     (tie.spec
+    (λ c κs. search needs)
     (λ c κs. search needs)
     (λ c κs. search needs)
     (λ c κs. search needs)

@@ -3,7 +3,8 @@ use mathlib.Core.Path.{_≡_, refl, sym}
 use native.Mathlib.Omega.{arith}
 use Rattle.rng.specs.SplitMix64.{stateAfter}
 use Rattle.rng.proofs.States.{state-none}
-use Rattle.counts.specs.Draws.{drawsOf}
+use Rattle.dsl.proofs.Reach.{reaches-less}
+use Rattle.draws.specs.Draws.{drawsOf}
 use Rattle.counts.proofs.Periods.{period-fits}
 use Rattle.voice_pluck.proofs.Kept.{pluck-kept}
 use Rattle.voice.specs.Voice.{waveFrames}
@@ -152,125 +153,145 @@ bass-note-requires c κs = (c .before .before .before .before .before .before .b
 enum-told-17 : tie.Need-enum-told-17
 enum-told-17 c = c .match .keys17
 
-cowbell-requires : tie.Need-cowbell-requires
-cowbell-requires c κs = (c .before .before .before .before .before .before .before .before .pre .1 .1 .1 .1 .0, c .before .before .before .before .before .before .before .before .pre .1 .1 .0)
+at-requires : tie.Need-at-requires
+at-requires c κs =
+    let b7 = c .before .before .before .before .before .before .before in
+    reaches-less (b7 .args .pitch) _ _ _ (b7 .pre .1 .1 .1 .1 .0) (omega (arith, b7 .pre .1 .0))
+
+kit-drum-requires : tie.Need-kit-drum-requires
+kit-drum-requires c κs = (c .before .before .before .before .before .before .before .before .before .pre .0, c .before .before .before .before .before .before .before .before .before .pre .1 .1 .0)
 
 same-length-6 : tie.Need-same-length-6
-same-length-6 c = c .before .before .square .kept .1 .1 .1 .1 .1 .0
+same-length-6 c = c .before .before .kit-drum .kept .1 .1 .1 .1 .0
 
 returns-5 : tie.Need-returns-5
 unfolding drawsOf waveFrames
 returns-5 c =
-    let note = rw (c .before .before .before .before .before .before .nearest-u32-to-f32 .ensures) at (c .before .before .square .ensures) in
-    rw (c .before .before .before .before .enum-told .given .1) (undrawn (c .before .before .before .before .before .before .before .before .before .before .before), (note, refl))
+    let hit = rw (c .before .before .before .before .at .ensures) at (c .before .before .kit-drum .ensures) in
+    rw (c .before .before .before .before .before .enum-told17 .given .1) (hit .1, (hit .0, refl))
+
+enum-told-18 : tie.Need-enum-told-18
+enum-told-18 c = c .match .keys18
+
+cowbell-requires : tie.Need-cowbell-requires
+cowbell-requires c κs = (c .before .before .before .before .before .before .before .before .pre .1 .1 .1 .1 .0, c .before .before .before .before .before .before .before .before .pre .1 .1 .0)
 
 same-length-7 : tie.Need-same-length-7
-same-length-7 c = c .before .before .triangle .kept .1 .1 .1 .0
+same-length-7 c = c .before .before .square .kept .1 .1 .1 .1 .1 .0
 
 returns-6 : tie.Need-returns-6
 unfolding drawsOf waveFrames
 returns-6 c =
-    let note = rw (c .before .before .before .before .before .before .nearest-u32-to-f32 .ensures) at (c .before .before .triangle .ensures) in
-    rw (c .before .before .before .before .enum-told2 .given .1) (undrawn (c .before .before .before .before .before .before .before .before .before .before .before), (note, refl))
+    let note = rw (c .before .before .before .before .before .before .nearest-u32-to-f32 .ensures) at (c .before .before .square .ensures) in
+    rw (c .before .before .before .before .enum-told .given .1) (undrawn (c .before .before .before .before .before .before .before .before .before .before .before), (note, refl))
 
 same-length-8 : tie.Need-same-length-8
-same-length-8 c = c .before .before .sawtooth .kept .1 .1 .1 .0
+same-length-8 c = c .before .before .triangle .kept .1 .1 .1 .0
 
 returns-7 : tie.Need-returns-7
 unfolding drawsOf waveFrames
 returns-7 c =
-    let note = rw (c .before .before .before .before .before .before .nearest-u32-to-f32 .ensures) at (c .before .before .sawtooth .ensures) in
-    rw (c .before .before .before .before .enum-told3 .given .1) (undrawn (c .before .before .before .before .before .before .before .before .before .before .before), (note, refl))
+    let note = rw (c .before .before .before .before .before .before .nearest-u32-to-f32 .ensures) at (c .before .before .triangle .ensures) in
+    rw (c .before .before .before .before .enum-told2 .given .1) (undrawn (c .before .before .before .before .before .before .before .before .before .before .before), (note, refl))
 
 same-length-9 : tie.Need-same-length-9
-same-length-9 c = c .before .before .sine .kept .1 .1 .1 .0
+same-length-9 c = c .before .before .sawtooth .kept .1 .1 .1 .0
 
 returns-8 : tie.Need-returns-8
 unfolding drawsOf waveFrames
 returns-8 c =
-    let note = rw (c .before .before .before .before .before .before .nearest-u32-to-f32 .ensures) at (c .before .before .sine .ensures) in
-    rw (c .before .before .before .before .enum-told4 .given .1) (undrawn (c .before .before .before .before .before .before .before .before .before .before .before), (note, refl))
+    let note = rw (c .before .before .before .before .before .before .nearest-u32-to-f32 .ensures) at (c .before .before .sawtooth .ensures) in
+    rw (c .before .before .before .before .enum-told3 .given .1) (undrawn (c .before .before .before .before .before .before .before .before .before .before .before), (note, refl))
 
 same-length-10 : tie.Need-same-length-10
-same-length-10 c = c .before .before .fm .kept .1 .1 .1 .1 .1 .0
+same-length-10 c = c .before .before .sine .kept .1 .1 .1 .0
 
 returns-9 : tie.Need-returns-9
 unfolding drawsOf waveFrames
 returns-9 c =
-    let note = rw (c .before .before .before .before .before .before .nearest-u32-to-f32 .ensures) at (c .before .before .fm .ensures) in
-    rw (c .before .before .before .before .enum-told6 .given .1) (undrawn (c .before .before .before .before .before .before .before .before .before .before .before), (note, refl))
+    let note = rw (c .before .before .before .before .before .before .nearest-u32-to-f32 .ensures) at (c .before .before .sine .ensures) in
+    rw (c .before .before .before .before .enum-told4 .given .1) (undrawn (c .before .before .before .before .before .before .before .before .before .before .before), (note, refl))
 
 same-length-11 : tie.Need-same-length-11
-same-length-11 c = c .before .before .epiano-note .kept .1 .1 .1 .1 .0
+same-length-11 c = c .before .before .fm .kept .1 .1 .1 .1 .1 .0
 
 returns-10 : tie.Need-returns-10
 unfolding drawsOf waveFrames
 returns-10 c =
-    let note = rw (c .before .before .before .before .before .before .nearest-u32-to-f32 .ensures) at (c .before .before .epiano-note .ensures) in
-    rw (c .before .before .before .before .enum-told9 .given .1) (undrawn (c .before .before .before .before .before .before .before .before .before .before .before), (note, refl))
+    let note = rw (c .before .before .before .before .before .before .nearest-u32-to-f32 .ensures) at (c .before .before .fm .ensures) in
+    rw (c .before .before .before .before .enum-told6 .given .1) (undrawn (c .before .before .before .before .before .before .before .before .before .before .before), (note, refl))
 
 same-length-12 : tie.Need-same-length-12
-same-length-12 c = c .before .before .organ-note .kept .1 .1 .1 .1 .0
+same-length-12 c = c .before .before .epiano-note .kept .1 .1 .1 .1 .0
 
 returns-11 : tie.Need-returns-11
 unfolding drawsOf waveFrames
 returns-11 c =
-    let note = rw (c .before .before .before .before .before .before .nearest-u32-to-f32 .ensures) at (c .before .before .organ-note .ensures) in
-    rw (c .before .before .before .before .enum-told10 .given .1) (undrawn (c .before .before .before .before .before .before .before .before .before .before .before), (note, refl))
+    let note = rw (c .before .before .before .before .before .before .nearest-u32-to-f32 .ensures) at (c .before .before .epiano-note .ensures) in
+    rw (c .before .before .before .before .enum-told9 .given .1) (undrawn (c .before .before .before .before .before .before .before .before .before .before .before), (note, refl))
 
 same-length-13 : tie.Need-same-length-13
-same-length-13 c = c .before .before .strings-note .kept .1 .1 .1 .0
+same-length-13 c = c .before .before .organ-note .kept .1 .1 .1 .1 .0
 
 returns-12 : tie.Need-returns-12
 unfolding drawsOf waveFrames
 returns-12 c =
-    let note = rw (c .before .before .before .before .before .before .nearest-u32-to-f32 .ensures) at (c .before .before .strings-note .ensures) in
-    rw (c .before .before .before .before .enum-told11 .given .1) (undrawn (c .before .before .before .before .before .before .before .before .before .before .before), (note, refl))
+    let note = rw (c .before .before .before .before .before .before .nearest-u32-to-f32 .ensures) at (c .before .before .organ-note .ensures) in
+    rw (c .before .before .before .before .enum-told10 .given .1) (undrawn (c .before .before .before .before .before .before .before .before .before .before .before), (note, refl))
 
 same-length-14 : tie.Need-same-length-14
-same-length-14 c = c .before .before .brass-note .kept .1 .1 .1 .1 .0
+same-length-14 c = c .before .before .strings-note .kept .1 .1 .1 .0
 
 returns-13 : tie.Need-returns-13
 unfolding drawsOf waveFrames
 returns-13 c =
-    let note = rw (c .before .before .before .before .before .before .nearest-u32-to-f32 .ensures) at (c .before .before .brass-note .ensures) in
-    rw (c .before .before .before .before .enum-told12 .given .1) (undrawn (c .before .before .before .before .before .before .before .before .before .before .before), (note, refl))
+    let note = rw (c .before .before .before .before .before .before .nearest-u32-to-f32 .ensures) at (c .before .before .strings-note .ensures) in
+    rw (c .before .before .before .before .enum-told11 .given .1) (undrawn (c .before .before .before .before .before .before .before .before .before .before .before), (note, refl))
 
 same-length-15 : tie.Need-same-length-15
-same-length-15 c = c .before .before .mallet-note .kept .1 .1 .1 .1 .0
+same-length-15 c = c .before .before .brass-note .kept .1 .1 .1 .1 .0
 
 returns-14 : tie.Need-returns-14
 unfolding drawsOf waveFrames
 returns-14 c =
-    let note = rw (c .before .before .before .before .before .before .nearest-u32-to-f32 .ensures) at (c .before .before .mallet-note .ensures) in
-    rw (c .before .before .before .before .enum-told14 .given .1) (undrawn (c .before .before .before .before .before .before .before .before .before .before .before), (note, refl))
+    let note = rw (c .before .before .before .before .before .before .nearest-u32-to-f32 .ensures) at (c .before .before .brass-note .ensures) in
+    rw (c .before .before .before .before .enum-told12 .given .1) (undrawn (c .before .before .before .before .before .before .before .before .before .before .before), (note, refl))
 
 same-length-16 : tie.Need-same-length-16
-same-length-16 c = c .before .before .bell-note .kept .1 .1 .1 .0
+same-length-16 c = c .before .before .mallet-note .kept .1 .1 .1 .1 .0
 
 returns-15 : tie.Need-returns-15
 unfolding drawsOf waveFrames
 returns-15 c =
-    let note = rw (c .before .before .before .before .before .before .nearest-u32-to-f32 .ensures) at (c .before .before .bell-note .ensures) in
-    rw (c .before .before .before .before .enum-told15 .given .1) (undrawn (c .before .before .before .before .before .before .before .before .before .before .before), (note, refl))
+    let note = rw (c .before .before .before .before .before .before .nearest-u32-to-f32 .ensures) at (c .before .before .mallet-note .ensures) in
+    rw (c .before .before .before .before .enum-told14 .given .1) (undrawn (c .before .before .before .before .before .before .before .before .before .before .before), (note, refl))
 
 same-length-17 : tie.Need-same-length-17
-same-length-17 c = c .before .before .bass-note .kept .1 .1 .1 .1 .1 .0
+same-length-17 c = c .before .before .bell-note .kept .1 .1 .1 .0
 
 returns-16 : tie.Need-returns-16
 unfolding drawsOf waveFrames
 returns-16 c =
-    let note = rw (c .before .before .before .before .before .before .nearest-u32-to-f32 .ensures) at (c .before .before .bass-note .ensures) in
-    rw (c .before .before .before .before .enum-told16 .given .1) (undrawn (c .before .before .before .before .before .before .before .before .before .before .before), (note, refl))
+    let note = rw (c .before .before .before .before .before .before .nearest-u32-to-f32 .ensures) at (c .before .before .bell-note .ensures) in
+    rw (c .before .before .before .before .enum-told15 .given .1) (undrawn (c .before .before .before .before .before .before .before .before .before .before .before), (note, refl))
 
 same-length-18 : tie.Need-same-length-18
-same-length-18 c = c .before .before .cowbell .kept .1 .1 .1 .0
+same-length-18 c = c .before .before .bass-note .kept .1 .1 .1 .1 .1 .0
 
 returns-17 : tie.Need-returns-17
 unfolding drawsOf waveFrames
 returns-17 c =
+    let note = rw (c .before .before .before .before .before .before .nearest-u32-to-f32 .ensures) at (c .before .before .bass-note .ensures) in
+    rw (c .before .before .before .before .enum-told16 .given .1) (undrawn (c .before .before .before .before .before .before .before .before .before .before .before), (note, refl))
+
+same-length-19 : tie.Need-same-length-19
+same-length-19 c = c .before .before .cowbell .kept .1 .1 .1 .0
+
+returns-18 : tie.Need-returns-18
+unfolding drawsOf waveFrames
+returns-18 c =
     let note = rw (c .before .before .before .before .before .before .nearest-u32-to-f32 .ensures) at (c .before .before .cowbell .ensures) in
-    rw (c .before .before .before .before .enum-told17 .given .1) (undrawn (c .before .before .before .before .before .before .before .before .before .before .before), (note, refl))
+    rw (c .before .before .before .before .enum-told18 .given .1) (undrawn (c .before .before .before .before .before .before .before .before .before .before .before), (note, refl))
 
 pub voice-note-spec : {M : Type 1} → statement M
 voice-note-spec =
@@ -319,9 +340,12 @@ voice-note-spec =
     enum-told-16
     bass-note-requires
     enum-told-17
-    cowbell-requires
+    at-requires
+    kit-drum-requires
     same-length-6
     returns-5
+    enum-told-18
+    cowbell-requires
     same-length-7
     returns-6
     same-length-8
@@ -345,4 +369,6 @@ voice-note-spec =
     same-length-17
     returns-16
     same-length-18
-    returns-17)
+    returns-17
+    same-length-19
+    returns-18)

@@ -74,14 +74,19 @@ unfolding waveAt
 returns-17 c = rw (c .match .keys17)
 
 returns-18 : tie.Need-returns-18
-returns-18 c =
+unfolding waveAt
+returns-18 c = rw (c .match .keys18)
+
+returns-19 : tie.Need-returns-19
+returns-19 c =
     let r = c .match .rest in
-    let q = r .0 .0 .0 .0 .0 .0 .0 .0 in
+    let q = r .0 .0 .0 .0 .0 .0 .0 .0 .0 in
     let h4 = past _ 3 (past _ 2 (past _ 1 (past _ 0 zero-le (q .0 .0 .0 .0 .0 .0 .0 .0 .1)) (q .0 .0 .0 .0 .0 .0 .0 .1)) (q .0 .0 .0 .0 .0 .0 .1)) (q .0 .0 .0 .0 .0 .1) in
     let h8 = past _ 7 (past _ 6 (past _ 5 (past _ 4 h4 (q .0 .0 .0 .0 .1)) (q .0 .0 .0 .1)) (q .0 .0 .1)) (q .0 .1) in
-    let h12 = past _ 11 (past _ 10 (past _ 9 (past _ 8 h8 (r .0 .0 .0 .0 .0 .0 .0 .0 .1)) (r .0 .0 .0 .0 .0 .0 .0 .1)) (r .0 .0 .0 .0 .0 .0 .1)) (r .0 .0 .0 .0 .0 .1) in
-    let h16 = past _ 15 (past _ 14 (past _ 13 (past _ 12 h12 (r .0 .0 .0 .0 .1)) (r .0 .0 .0 .1)) (r .0 .0 .1)) (r .0 .1) in
-    none _ h16 (r .1)
+    let h9 = past _ 8 h8 (q .1) in
+    let h13 = past _ 12 (past _ 11 (past _ 10 (past _ 9 h9 (r .0 .0 .0 .0 .0 .0 .0 .0 .1)) (r .0 .0 .0 .0 .0 .0 .0 .1)) (r .0 .0 .0 .0 .0 .0 .1)) (r .0 .0 .0 .0 .0 .1) in
+    let h17 = past _ 16 (past _ 15 (past _ 14 (past _ 13 h13 (r .0 .0 .0 .0 .1)) (r .0 .0 .0 .1)) (r .0 .0 .1)) (r .0 .1) in
+    none _ (past _ 17 h17 (r .1))
 
 pub at-spec : {M : Type 1} → statement M
 at-spec =
@@ -104,4 +109,5 @@ at-spec =
     returns-15
     returns-16
     returns-17
-    returns-18)
+    returns-18
+    returns-19)

@@ -1,17 +1,23 @@
--- `counts::draws::draw_count` meets its contract. Assumes nothing.
+-- `draws::draw_count` meets its contract. Assumes nothing.
 use borrow.Author.Needs.{needs}
-use mathlib.Core.Path.{_≡_}
+use mathlib.Core.Path.{_≡_, ap, _∙_}
 use native.Mathlib.Omega.{arith}
 use Prim.Native.Nat.{ℕ, _<_, _≤_, min}
-use Rattle.counts.specs.Draws.{drawsOf}
-use Rattle.counts.proofs.draws.draw_count.Statement.{statement}
-use Rattle.counts.proofs.draws.draw_count.Tie as tie
+use Rattle.dsl.specs.declared.kit.KitStyle.{KitStyle}
+use Rattle.drum.specs.declared.Drum.{Drum}
+use Rattle.kit_counts.specs.KitDraws.{kitDraws}
+use Rattle.draws.specs.Draws.{drawsOf}
+use Rattle.draws.proofs.draw_count.Statement.{statement}
+use Rattle.draws.proofs.draw_count.Tie as tie
 
 low : (n k : ℕ) {h : ℕ} → h ≡ k → n < h → n ≡ min n k
 low n k e l = omega arith
 
 high : (n h k : ℕ) → h ≡ k → h ≤ n → h ≡ min n k
 high n h k e l = omega arith
+
+by-drum : (style : KitStyle) (drum : Drum) (rate n : ℕ) {r : ℕ} {d : Drum} → d ≡ drum → r ≡ kitDraws style d rate n → r ≡ kitDraws style drum rate n
+by-drum style drum rate n e h = h ∙ ap (λ (d : Drum). kitDraws style d rate n) e
 
 returns : tie.Need-returns
 unfolding drawsOf
@@ -83,7 +89,12 @@ returns-17 c = rw (c .enum-told16 .given .1)
 
 returns-18 : tie.Need-returns-18
 unfolding drawsOf
-returns-18 c = rw (c .enum-told17 .given .1)
+returns-18 c =
+    rw (c .before .before .enum-told17 .given .1) (by-drum _ _ _ _ (c .before .first-drum .ensures) (c .kit-draws .ensures))
+
+returns-19 : tie.Need-returns-19
+unfolding drawsOf
+returns-19 c = rw (c .enum-told18 .given .1)
 
 pub draw-count-spec : {M : Type 1} → statement M
 draw-count-spec =
@@ -108,6 +119,9 @@ draw-count-spec =
     (λ c. search needs)
     (λ c. search needs)
     (λ c. search needs)
+    (λ c κs. search needs)
+    (λ c κs. search needs)
+    (λ c. search needs)
     returns
     returns-2
     returns-3
@@ -125,4 +139,5 @@ draw-count-spec =
     returns-15
     returns-16
     returns-17
-    returns-18)
+    returns-18
+    returns-19)

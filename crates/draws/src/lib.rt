@@ -1,27 +1,19 @@
-// The draw counts, by wave.
+// How many draws a note takes from its generator, known before it is voiced.
 ghost use mathlib.Core.Path.{_≡_};
-ghost use Rattle.counts.specs.Draws.{thumpFrames, drawsOf};
-use crate::period::string_period;
+ghost use Rattle.draws.specs.Draws.{drawsOf};
+use dsl::KitStyle;
 use dsl::SeqWave;
 
-// The frames in which the piano's hammer is heard, 0.006 seconds of them: at a rate of the domain those
-// i with i / rate < 0.006 in f32 (the law `thump-is`).
-fn thump_frames(rate: u32) -> usize
-    ensures { λ r. ⌜ r ≡ thumpFrames rate ⌝ }
-{
-    (3 * (rate as usize) + 499) / 500
-}
-
 // The draws of a note of some sounded frames, whose pitch at the first of them is `first`.
-pub fn draw_count(wave: SeqWave, rate: u32, first: f32, frames: usize) -> usize
-    ensures { λ r. ⌜ r ≡ drawsOf wave rate first frames ⌝ }
+pub fn draw_count(wave: SeqWave, style: KitStyle, rate: u32, first: f32, frames: usize) -> usize
+    ensures { λ r. ⌜ r ≡ drawsOf wave style rate first frames ⌝ }
 {
     match wave {
         SeqWave::Noise => frames,
         SeqWave::Flute => frames,
-        SeqWave::Pluck => string_period(rate, first),
+        SeqWave::Pluck => counts::string_period(rate, first),
         SeqWave::Piano => {
-            let thump = thump_frames(rate);
+            let thump = counts::thump_frames(rate);
             if frames < thump { frames } else { thump }
         }
         SeqWave::Square => 0,
@@ -36,6 +28,10 @@ pub fn draw_count(wave: SeqWave, rate: u32, first: f32, frames: usize) -> usize
         SeqWave::Mallet => 0,
         SeqWave::Bell => 0,
         SeqWave::Bass => 0,
+        SeqWave::Kit => {
+            let drum = kit_midi::first_drum(first);
+            kit_counts::kit_draws(style, drum, rate, frames)
+        }
         SeqWave::Cowbell => 0,
     }
 }

@@ -1,12 +1,12 @@
--- `kit::first_drum` meets its contract: the number is read back from its bits. Assumes nothing.
+-- `kit_midi::first_drum` meets its contract: the number is read back from its bits. Assumes nothing.
 use mathlib.Core.Path.{ap, _∙_}
 use borrow.Author.Needs.{needs}
 use mir.Syntax.{w32}
 use mir.Val.{SFits}
 use mir.Facts.{toZ-ofZ}
 use Rattle.drum.specs.Drums.{drumOf}
-use Rattle.kit.proofs.first_drum.Statement.{statement}
-use Rattle.kit.proofs.first_drum.Tie as tie
+use Rattle.kit_midi.proofs.first_drum.Statement.{statement}
+use Rattle.kit_midi.proofs.first_drum.Tie as tie
 
 returns : tie.Need-returns
 returns c =
