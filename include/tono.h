@@ -1,4 +1,5 @@
-/* tono.h: plays a text score, computes exponentials, and writes and reads WAVE files, from C or C++.
+/* tono.h: plays a text score, counts its draws, computes exponentials, and writes and reads WAVE files, from
+ * C or C++.
  *
  * Link libtono.a, which `rt staticlib tono` writes to target/staticlib. It needs nothing but memcpy and
  * memset of the C library. x86-64 Linux. The header compiles as C99 and later, and as C++. */
@@ -131,6 +132,20 @@ static inline const char *tono_reason(int number)
  * It uses up to 103,160 bytes of stack, measured on every wave (compare/robust/stack.c). Give a thread that
  * calls it 128 KiB or more beyond its own needs. */
 int64_t tono_play(const uint8_t *score, size_t score_len, uint8_t *reply, size_t reply_len);
+
+/* How many draws the text score in score[0] .. score[score_len - 1] would make: what a planning screen needs
+ * to set draw numbers aside. Nothing is played.
+ *
+ * Returns 0 and puts the total into *draws. If tono_play would refuse the score, the call returns minus the
+ * number of its R line, a number of enum tono_refusal, and *draws is left as it was. The total is the same
+ * whether it is added in list order or by start frame. The draw at which each note begins is reckoned in list
+ * order, since that is how the score is played: the first note begins at the draw of the G line, and each
+ * other where the notes listed before it end.
+ *
+ * The score is lent as to tono_play, draws points to a uint64_t that does not overlap it, and you must make
+ * sure of the same. The call keeps no state, allocates nothing, makes no system call and always returns. It
+ * uses up to 14,200 bytes of stack, measured on an example of every wave. */
+int64_t tono_plan(const uint8_t *score, size_t score_len, uint64_t *draws);
 
 /* The exponential of x, for every x. It is the kernel that the voices call, before that is narrowed to float.
  *

@@ -1,6 +1,6 @@
-/* How much stack the C call takes: plays the scores that the command line names, each on a thread whose
- * stack was filled with one byte, and prints how far down other bytes stand, less what a thread takes
- * that makes no call. */
+/* How much stack the C call takes: plays the scores that the command line names, or plans them after the word
+ * `plan`, each on a thread whose stack was filled with one byte, and prints how far down other bytes stand,
+ * less what a thread takes that makes no call. */
 #define _DEFAULT_SOURCE
 #include "tono.h"
 
@@ -13,8 +13,10 @@ enum { STACK = 1 << 20, FILLER = 0xa5 };
 
 static uint8_t score[1 << 18], reply[TONO_LISTING_MOST];
 
+static uint64_t draws;
+
 struct call {
-    int is_made;
+    int is_made, is_planned;
     size_t score_length;
     int64_t answer;
 };
@@ -22,7 +24,9 @@ struct call {
 static void *work(void *at)
 {
     struct call *call = at;
-    if (call->is_made)
+    if (call->is_planned)
+        call->answer = tono_plan(score, call->score_length, &draws);
+    else if (call->is_made)
         call->answer = tono_play(score, call->score_length, reply, sizeof reply);
     return NULL;
 }
@@ -48,11 +52,12 @@ static size_t depth(struct call *call)
 
 int main(int count, char **words)
 {
-    struct call none = {0, 0, 0};
+    struct call none = {0, 0, 0, 0};
     size_t most = 0, idle = depth(&none);
-    for (int i = 1; i < count; i++) {
+    int is_planned = count > 1 && strcmp(words[1], "plan") == 0;
+    for (int i = 1 + is_planned; i < count; i++) {
         FILE *file = fopen(words[i], "rb");
-        struct call call = {1, 0, 0};
+        struct call call = {1, is_planned, 0, 0};
         if (file == NULL) {
             perror(words[i]);
             return 1;

@@ -3,7 +3,8 @@
 use crate::engine::Count;
 use crate::{
     boards, drawbars, helpers, hop_calls, kernels, kit_notes, kit_scores, kits, mapped_calls,
-    note_calls, progress, random, score_calls, station_calls, texts, tones, voices, wave_files,
+    note_calls, plan_calls, progress, random, score_calls, station_calls, texts, tones, voices,
+    wave_files,
 };
 use std::process::{Command, Stdio};
 
@@ -14,7 +15,7 @@ const TEXTS: u64 = 1_000_000;
 /// One row of the table: what is compared, with what, and the run of one case in a number.
 type Part = (&'static str, &'static str, fn(u64) -> Count);
 
-const PARTS: [Part; 18] = [
+const PARTS: [Part; 19] = [
     ("float helpers", "Rust's operations", helpers::run),
     ("kernels", "det.rs and the request's words", |scale| {
         kernels::run_all(kernels::COUNT.div_ceil(scale), scale)
@@ -45,6 +46,9 @@ const PARTS: [Part; 18] = [
         "01's tally of each station",
         |scale| station_calls::run(station_calls::COUNT.div_ceil(scale)),
     ),
+    ("planning calls", "the notes sorted and added", |scale| {
+        plan_calls::run(plan_calls::COUNT.div_ceil(scale))
+    }),
     ("text scores", "01's text call", |scale| {
         texts::run(texts::COUNT.div_ceil(scale))
     }),

@@ -64,6 +64,10 @@ impl Grid {
         (start, end.saturating_sub(start).min(self.n).max(1))
     }
 
+    pub fn start(&self, note: &SeqNote) -> usize {
+        self.span(note).0
+    }
+
     /// The length of the note of these words.
     pub fn length(&self, words: &[u32]) -> usize {
         self.span(&bare(words)).1

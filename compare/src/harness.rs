@@ -125,6 +125,37 @@ mod raw {
             string: *mut f32,
             string_len: usize,
         ) -> u32;
+        pub fn h_plan(
+            seeds: *const u64,
+            seeds_len: usize,
+            counts: *const u64,
+            counts_len: usize,
+            draws: *mut u64,
+            station: u32,
+            rate: u32,
+            tempo: f32,
+            steps_per_beat: u32,
+            points: *const u32,
+            points_len: usize,
+            swing: f32,
+            humanize: f32,
+            hop: u32,
+            wave: u32,
+            style: u32,
+            duty: f32,
+            knobs: *const f32,
+            knobs_len: usize,
+            bars: *const f32,
+            bars_len: usize,
+            env: *const f32,
+            env_len: usize,
+            notes: *const u32,
+            notes_len: usize,
+            lane: *const f32,
+            lane_len: usize,
+            n: usize,
+        ) -> u32;
+        pub fn tono_plan(score: *const u8, score_len: usize, draws: *mut u64) -> i64;
     }
 }
 
@@ -239,10 +270,77 @@ pub fn h_score(args: ScoreArgs) -> u32 {
     }
 }
 
+/// What a planning call takes: the session, numbers and values to read.
+pub struct PlanArgs<'a> {
+    pub seeds: &'a [u64],
+    pub counts: &'a [u64],
+    pub draws: &'a mut u64,
+    pub station: u32,
+    pub rate: u32,
+    pub tempo: f32,
+    pub steps_per_beat: u32,
+    pub points: &'a [u32],
+    pub swing: f32,
+    pub humanize: f32,
+    pub hop: u32,
+    pub wave: u32,
+    pub style: u32,
+    pub duty: f32,
+    pub knobs: &'a [f32],
+    pub bars: &'a [f32],
+    pub env: &'a [f32],
+    pub notes: &'a [u32],
+    pub lane: &'a [f32],
+    pub n: usize,
+}
+
+/// The planning call: a refusal's number, 0, or 4294967295 where no call is made.
+pub fn h_plan(args: PlanArgs) -> u32 {
+    // As above.
+    unsafe {
+        raw::h_plan(
+            args.seeds.as_ptr(),
+            args.seeds.len(),
+            args.counts.as_ptr(),
+            args.counts.len(),
+            args.draws,
+            args.station,
+            args.rate,
+            args.tempo,
+            args.steps_per_beat,
+            args.points.as_ptr(),
+            args.points.len(),
+            args.swing,
+            args.humanize,
+            args.hop,
+            args.wave,
+            args.style,
+            args.duty,
+            args.knobs.as_ptr(),
+            args.knobs.len(),
+            args.bars.as_ptr(),
+            args.bars.len(),
+            args.env.as_ptr(),
+            args.env.len(),
+            args.notes.as_ptr(),
+            args.notes.len(),
+            args.lane.as_ptr(),
+            args.lane.len(),
+            args.n,
+        )
+    }
+}
+
 /// The C call: the listing's length, or -23 where it is longer than the reply.
 pub fn tono_play(score: &[u8], reply: &mut [u8]) -> i64 {
     // As above.
     unsafe { raw::tono_play(score.as_ptr(), score.len(), reply.as_mut_ptr(), reply.len()) }
+}
+
+/// 0, or minus a refusal's number.
+pub fn tono_plan(score: &[u8], draws: &mut u64) -> i64 {
+    // As above.
+    unsafe { raw::tono_plan(score.as_ptr(), score.len(), draws) }
 }
 
 /// A list of operations on a new board: how many were done.

@@ -45,6 +45,7 @@ mod mapped_grooves;
 mod mapped_kinds;
 mod mapped_random;
 mod note_calls;
+mod plan_calls;
 mod progress;
 mod random;
 mod reference;
@@ -108,6 +109,7 @@ const USAGE: &str =
        compare mapped-scores [COUNT [SEED]]  COUNT score calls with tempo maps in lists, 1.25 x 10^6 by default
        compare hops [COUNT [SEED]]  COUNT score calls at hops in lists, 1.5 x 10^6 by default
        compare stations [COUNT [SEED]]  COUNT score calls over stations in lists, 1.25 x 10^6 by default
+       compare plans [COUNT [SEED]]  COUNT planning calls and a tenth as many of texts, 10^6 by default
        compare drawbars [COUNT]  COUNT note calls of organs with drawbars, 10^6 by default, and a tenth as many texts
        compare far-lane          curves about place 2^32 of a lane of 16 GiB, most of which are not in memory; minutes
        compare texts [COUNT]     COUNT text scores and damaged ones, 10^6 by default
@@ -170,6 +172,9 @@ fn main() -> ExitCode {
         ["stations"] => status(station_calls::run(station_calls::COUNT)),
         ["stations", count] => counted(count, station_calls::run),
         ["stations", count, seed] => counted_from(count, seed, station_calls::run),
+        ["plans"] => status(plan_calls::run(plan_calls::COUNT)),
+        ["plans", count] => counted(count, plan_calls::run),
+        ["plans", count, seed] => counted_from(count, seed, plan_calls::run),
         ["drawbars"] => status(drawbars::run(drawbars::COUNT)),
         ["drawbars", count] => counted(count, drawbars::run),
         ["far-lane"] => status(far_lane::run()),

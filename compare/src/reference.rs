@@ -237,6 +237,35 @@ impl Tally {
         Some(judged.map(|accepted| accepted.draws))
     }
 
+    /// The number that refuses a call before its draws are looked at.
+    pub fn refused(&self, call: &ScoreCall) -> Option<u32> {
+        refusal(call, &Grid::of(call))
+    }
+
+    /// The planning screen's total, or the refusal's number: "It is refused as the score call is but for 20 and
+    /// 21, else reports the total". What is added goes on from the count, down the sorted list, until it passes
+    /// 2^64 − 1.
+    pub fn screen(&self, call: &ScoreCall) -> Option<Result<u64, u32>> {
+        score_voice(call)?;
+        let unlent = ScoreCall {
+            note_buf: call.out,
+            string: STRING,
+            ..*call
+        };
+        let grid = Grid::of(&unlent);
+        if let Some(number) = refusal(&unlent, &grid) {
+            return Some(Err(number));
+        }
+        let mut count = self.draw;
+        for one in unlent.listed(&grid) {
+            match count.checked_add(one.draws) {
+                None => return Some(Err(22)),
+                Some(more) => count = more,
+            }
+        }
+        Some(Ok(count - self.draw))
+    }
+
     /// "It reports 0 draws and d stays" .. "Accepted: it reports D .. d + D, becomes the new d."
     fn score_call(&mut self, call: &ScoreCall, voice: &Voice) -> Outcome {
         let grid = Grid::of(call);
@@ -287,6 +316,31 @@ impl Session {
             Some(tally) => tally.score_call(call, &voice),
         })
     }
+}
+
+impl Session {
+    /// A planning call, which "leaves the session as it was".
+    pub fn plan_call(&self, call: &ScoreCall) -> Called {
+        score_voice(call)?;
+        let Some(tally) = self.named(call.station) else {
+            return Some(Outcome::Refused(33));
+        };
+        Some(match tally.screen(call)? {
+            Err(number) => Outcome::Refused(number),
+            Ok(draws) => Outcome::Accepted {
+                draws,
+                frames: Vec::new(),
+            },
+        })
+    }
+}
+
+/// A line of the planning screen. Lines are in order by start, then by list place.
+#[derive(PartialEq, Eq, PartialOrd, Ord)]
+pub struct Listed {
+    pub start: usize,
+    pub place: usize,
+    pub draws: u64,
 }
 
 /// "1 rate; 2 n; 3 tempo; 4 steps per beat; 5 swing or humanize: outside the domain"; "6 a knob of any
@@ -366,6 +420,32 @@ fn score_voice(call: &ScoreCall) -> Option<Voice> {
 }
 
 impl ScoreCall<'_> {
+    /// "The planning screen lists notes by start frame, ties by list place": of a call that is not refused.
+    pub fn listed(&self, grid: &Grid) -> Vec<Listed> {
+        let voice = score_voice(self).expect("the call is made");
+        let notes = self.words.chunks_exact(5).enumerate();
+        let mut lines: Vec<Listed> = notes
+            .map(|(place, w)| {
+                let note = bare(w);
+                let frames = grid.place(&note).map_or(0, |frames| frames.len());
+                let first_pitch = match note.pitch {
+                    Value::Const(pitch) => pitch,
+                    _ => self.lane[w[3] as usize],
+                };
+                Listed {
+                    start: grid.start(&note),
+                    place,
+                    draws: match frames {
+                        0 => 0,
+                        _ => draws_of(&voice, self.rate, first_pitch, frames),
+                    },
+                }
+            })
+            .collect();
+        lines.sort();
+        lines
+    }
+
     /// A note of five words, whose curve is widened: from the offset on each value of the lane h times, as
     /// many as the note is long. "For other h the Rust is given the widened curve."
     fn note(&self, grid: &Grid, w: &[u32]) -> SeqNote {

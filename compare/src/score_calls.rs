@@ -55,7 +55,7 @@ fn play(session: &mut Session, score: &Score, draws_before: u64) -> (u32, Option
 }
 
 /// As many of these as are lent; past the eighth there is nothing of a session.
-fn resized(numbers: [u64; STATIONS], len: usize) -> Vec<u64> {
+pub fn resized(numbers: [u64; STATIONS], len: usize) -> Vec<u64> {
     let mut numbers = numbers.to_vec();
     numbers.resize(len, 1);
     numbers

@@ -35,16 +35,33 @@ struct TextScore {
 /// "text only, before all others: 16 input above 65,536 bytes; 15 some line not of its form, a line
 /// missing or one too many; 16 n above 2,048 or notes above 256"
 pub fn listing(text: &[u8]) -> Listing {
+    match judged(text) {
+        Err((number, draw)) => refused(number, draw),
+        Ok(read) => played(&read),
+    }
+}
+
+/// The score, or the number of what refuses the text and the draw of its G line, 0 where none was read.
+fn judged(text: &[u8]) -> Result<TextScore, (u32, u64)> {
     if text.len() > MOST_BYTES {
-        return refused(16, 0);
+        return Err((16, 0));
     }
-    let Some(read) = read(text) else {
-        return refused(15, 0);
-    };
+    let read = read(text).ok_or((15, 0u64))?;
     if read.score.out > MOST_FRAMES || read.score.words.len() / 5 > MOST_NOTES {
-        return refused(16, read.draw);
+        return Err((16, read.draw));
     }
-    played(&read)
+    Ok(read)
+}
+
+/// The planning call of a text, on the station that its G line opens: its total, or the refusal's number.
+pub fn plan(text: &[u8]) -> Result<u64, u32> {
+    let read = judged(text).map_err(|(number, _)| number)?;
+    let session = Session::open(read.seed, read.draw);
+    match session.plan_call(&read.score.call()) {
+        Some(Outcome::Accepted { draws, .. }) => Ok(draws),
+        Some(Outcome::Refused(number)) => Err(number),
+        None => panic!("a V line has one of the waves"),
+    }
 }
 
 /// "A refused score prints one line alone: R, a tab, the number, a newline."

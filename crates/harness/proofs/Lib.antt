@@ -2,3 +2,4 @@ mod Eight
 mod Ends
 mod NoteEnds
 mod ScoreEnds
+mod PlanEnds

@@ -2,3 +2,4 @@ pub mod Called
 pub mod Note
 pub mod Score
 pub mod Stations
+pub mod Plan

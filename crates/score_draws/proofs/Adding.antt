@@ -3,9 +3,7 @@ use Prim.Native.Nat.{ℕ, zero, suc, _+_, _-_, _≤_, _<_}
 use mathlib.Core.Path.{_≡_, refl, sym, ap, _∙_}
 use native.Mathlib.Omega.{arith}
 use native.Mathlib.Numerals.{add-one}
-use borrow.Author.Tests.{lt-ltb, le-ltb, ltb-true, lt-leb}
-use mathlib.Core.Bool.{Bool, true, false, cond}
-use lib.Dec.{ltb, leb}
+use borrow.Author.Tests.{lt-ltb, le-ltb}
 use Rattle.laws.proofs.If.{if-true, if-false}
 use Rattle.score.specs.Score.{Score, noteIn, noteCount, noteDraws, drawsBefore, scoreDraws}
 use Rattle.score.proofs.Notes.{draws-all}
@@ -50,18 +48,3 @@ module _ {s : Score} {left : ℕ} where
       let all : total ≡ scoreDraws s = h .is ∙ ap (drawsBefore s) z ∙ sym (draws-all s) in
       let under : scoreDraws s ≤ left = omega (arith, h .fits) in
       if-false _ (le-ltb _ _ under) (ap Total all)
-
--- ---- what the sum tells
-over-is : (b : Bool) (D : ℕ) → Over ≡ cond b Over (Total D) → b ≡ true
-over-is true D e = refl
-over-is false D e = cc
-
-total-is : (b : Bool) (D t : ℕ) → Total t ≡ cond b Over (Total D) → t ≡ D
-total-is true D t e = cc
-total-is false D t e = cc
-
-pub sum-over : (left D : ℕ) → Over ≡ sumOf left D → false ≡ leb D left
-sum-over left D e = sym (lt-leb D left (ltb-true left D (over-is (ltb left D) D e)))
-
-pub sum-total : (left D t : ℕ) → Total t ≡ sumOf left D → leb t left ≡ leb D left
-sum-total left D t e = ap (λ (d : ℕ). leb d left) (total-is (ltb left D) D t e)

@@ -1,2 +1,3 @@
 mod Adding
+pub mod Last
 mod Most

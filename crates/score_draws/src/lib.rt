@@ -42,7 +42,7 @@ pub enum Sum {
 
 // The draws of all notes, or that they pass `left`. What is added never passes `left`, so that the sum
 // cannot overflow.
-fn score_draws(seq: Seq, notes: &[u32], lane: &[f32], lent: Lent, left: u64) -> Sum
+pub fn score_draws(seq: Seq, notes: &[u32], lane: &[f32], lent: Lent, left: u64) -> Sum
     requires { ⌜ refusal (scoreOf seq (now notes) (now lane) lent) ≡ Fine ⌝ }
     ensures { λ r. ⌜ r ≡ sumOf left (scoreDraws (scoreOf seq (now (notes .entry)) (now (lane .entry)) lent)) ⌝ }
 {

@@ -1,46 +1,26 @@
 -- The ways in which a score call ends. Assumes nothing.
-use Prim.Native.Nat.{ℕ, _+_, _-_, _^_, _≤_, _<_}
+use Prim.Native.Nat.{ℕ, _+_, _-_, _^_, _<_}
 use mathlib.Core.Path.{_≡_, sym, ap, _∙_}
-use mathlib.Core.List.{[], _∷_}
 use mathlib.Core.Bool.{true, false}
 use native.Mathlib.Omega.{arith}
-use borrow.Author.Tests.{lt-ltb, le-ltb, leb-true, leb-false}
+use borrow.Author.Tests.{leb-true}
 use lib.ListN.{length, drop}
-use lib.Dec.{ltb, leb}
+use lib.Dec.{leb}
 use Rattle.rng.specs.SplitMix64.{stateAfter}
 use Rattle.rng.specs.declared.Rng.{Rng}
 use Rattle.outcome.specs.Answer.{Result, accepted, unless, seen, outAfter, free}
 use Rattle.outcome.specs.declared.answer.Outcome.the-variants.{Played, Refused}
 use Rattle.outcome.specs.declared.answer.Refusal.{Refusal}
 use Rattle.outcome.specs.declared.answer.Refusal.the-variants.{Draws}
-use Rattle.outcome.specs.First.{_⇒_, firstOf, orElse}
 use Rattle.outcome.specs.declared.answer.Verdict.{Verdict}
 use Rattle.outcome.specs.declared.answer.Verdict.the-variants.{Fine, Refuse}
-use Rattle.score.specs.Score.{Score, scoreDraws}
+use Rattle.score.specs.Score.{scoreDraws}
 use Rattle.score_contract.specs.Frames.{scoreFrames}
 use Rattle.score.specs.Refusals.{refusal, refusalAt}
 use Rattle.score_contract.specs.ScoreCall.{Event, Scored, scoreIn, stationAfter, resultOf, resultIn}
 use Rattle.session.specs.declared.station.Station.{Station}
 use Rattle.session.specs.declared.station.StationAnswer.{StationAnswer}
-
--- ---- 22 applies where none before it does and the draws pass what is left
-module _ (s : Score) (d : ℕ) where
-  refused-first : {r : Refusal} → Refuse r ≡ refusal s → Refuse r ≡ refusalAt s d
-  unfolding refusalAt
-  refused-first e = ap (λ (v : Verdict). orElse v (firstOf ((ltb (2 ^ 64 - 1) (d + scoreDraws s) ⇒ Draws) ∷ []))) e
-
-  module _ (none : Fine ≡ refusal s) (fits : d < 2 ^ 64) where
-    refused-last : leb (scoreDraws s) (2 ^ 64 - 1 - d) ≡ false → Refuse Draws ≡ refusalAt s d
-    unfolding refusalAt firstOf
-    refused-last o =
-        let h : 2 ^ 64 - 1 < d + scoreDraws s = omega (arith, leb-false (scoreDraws s) (2 ^ 64 - 1 - d) o) in
-        rw (sym none, lt-ltb _ _ h)
-
-    refused-not : leb (scoreDraws s) (2 ^ 64 - 1 - d) ≡ true → Fine ≡ refusalAt s d
-    unfolding refusalAt firstOf
-    refused-not o =
-        let h : d + scoreDraws s ≤ 2 ^ 64 - 1 = omega (arith, leb-true (scoreDraws s) (2 ^ 64 - 1 - d) o) in
-        rw (sym none, le-ltb _ _ h)
+use Rattle.score_draws.proofs.Last.{refused-first, refused-last, refused-not}
 
 -- ---- a call on the station a
 module _ (a : Station) (e : Event) where

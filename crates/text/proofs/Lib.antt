@@ -2,3 +2,4 @@ mod Shown
 pub mod Replying
 pub mod Refused
 pub mod Most
+pub mod Judged

@@ -1,12 +1,9 @@
 -- The listing of a text score: of its one call by the theorem about lists of calls, and which of its cases a text is. Assumes nothing.
 use Prim.Native.Nat.{ℕ, zero, suc, _≤_, _<_}
-use mathlib.Core.Path.{_≡_, refl, sym, ap, _∙_}
+use mathlib.Core.Path.{_≡_, refl, ap, _∙_}
 use mathlib.Core.List.{List, [], _∷_}
-use mathlib.Core.Bool.{Bool, true, false, cond}
 use native.Mathlib.Omega.{arith}
-use borrow.Author.Tests.{lt-ltb, le-ltb}
 use lib.ListN.{length}
-use Rattle.laws.proofs.If.{if-true, if-false}
 use Rattle.rng.specs.SplitMix64.{stateAfter}
 use Rattle.outcome.specs.Answer.{Result}
 use Rattle.score.specs.Score.{Score}
@@ -20,14 +17,14 @@ use Rattle.session.specs.declared.station.Station.{Station}
 use Rattle.tally.specs.Tally.{tally}
 use Rattle.tally.specs.Claim.{none, call, seenIn}
 use Rattle.tally.proofs.AllCalls.{all-calls}
-use Rattle.text_digits.specs.Read.{Read, got, broken}
-use Rattle.text_read.specs.Notes.{countOf}
-use Rattle.text_read.specs.Text.{Text, seqOf, textOf}
+use Rattle.text_digits.specs.Read.{broken}
+use Rattle.text_read.specs.Text.{seqOf, textOf}
 use Rattle.text_read.specs.declared.text.TextScore.{TextScore}
 use Rattle.text_read.proofs.Said.{Said}
 use Rattle.text_listing.specs.Lines.{printedR}
 use Rattle.text.proofs.Refused.{refusal-long}
-use Rattle.text.specs.Listing.{callOf, shownAt, shownOne, shown, played, formBroken, tooLarge, textRefusal, playedRead, unlessRefused, listing}
+use Rattle.text.proofs.Judged.{judged-broken, judged-frames, judged-notes, judged-none}
+use Rattle.text.specs.Listing.{callOf, shownAt, shownOne, shown, played, textRefusal, playedRead, unlessRefused, listing}
 
 -- a session at a draw shows what its seed and that draw do
 shown-session : (seed end : ℕ) (b : Station) (r : Result) → b ≡ stationAt seed end → shownAt (b .rng .0) (b .draw) r ≡ shownAt (stateAfter seed end) end r
@@ -62,39 +59,19 @@ module _ (text : List ℕ) where
   listing-long h = listing-refused 16 (omega arith) (refusal-long text h)
 
   module _ (few : length text ≤ 65536) where
-    read-as : (n : ℕ) (x : Read Text) → textOf text ≡ x → n ≡ cond (formBroken x) 15 (cond (tooLarge x) 16 0) → n ≡ textRefusal text
-    unfolding textRefusal
-    read-as n x is e = if-false _ (le-ltb _ _ few) (rw is e)
-
     pub listing-broken : textOf text ≡ broken → printedR 15 ≡ listing text
-    listing-broken e = listing-refused 15 (omega arith) (read-as 15 broken e refl)
+    listing-broken e = listing-refused 15 (omega arith) (judged-broken text few e)
 
     module _ {x : TextScore} {words₀ words : List ℕ} (said : Said x (textOf text) words₀ words) where
-      abbrev t : Text
-      t = said .text
-
-      long : x .numbers .n ≡ t .numbers .n
-      long = ap (λ (y : TextScore). y .numbers .n) (said .score)
-
-      many : x .count ≡ countOf (t .notes)
-      many = ap (λ (y : TextScore). y .count) (said .score)
-
-      -- the text is large where `b` is
-      sized-as : (b : Bool) → tooLarge (got t (said .rest)) ≡ b → cond b 16 0 ≡ textRefusal text
-      sized-as b e = read-as (cond b 16 0) (got t (said .rest)) (said .is) (sym (ap (λ (z : Bool). cond z 16 0) e))
-
       pub listing-frames : 2048 < x .numbers .n → printedR 16 ≡ listing text
-      listing-frames h = listing-refused 16 (omega arith) (sized-as true (sym (if-true _ (lt-ltb _ _ (rw long at h)) refl)))
+      listing-frames h = listing-refused 16 (omega arith) (judged-frames text few said h)
 
       pub listing-notes : x .numbers .n ≤ 2048 → 256 < x .count → printedR 16 ≡ listing text
-      listing-notes f h =
-          let some : tooLarge (got t (said .rest)) ≡ true = sym (if-false _ (le-ltb _ _ (rw long at f)) (sym (lt-ltb _ _ (rw many at h)))) in
-          listing-refused 16 (omega arith) (sized-as true some)
+      listing-notes f h = listing-refused 16 (omega arith) (judged-notes text few said f h)
 
-      pub listing-played : x .numbers .n ≤ 2048 → x .count ≤ 256 → (ws : List ℕ) → ws ≡ t .notes → played (seqOf (x .numbers) (x .env) (x .sound)) ws (x .numbers .n) (x .seed) (x .draw) ≡ listing text
+      pub listing-played : x .numbers .n ≤ 2048 → x .count ≤ 256 → (ws : List ℕ) → ws ≡ said .text .notes
+          → played (seqOf (x .numbers) (x .env) (x .sound)) ws (x .numbers .n) (x .seed) (x .draw) ≡ listing text
       unfolding listing
       listing-played f h ws is =
-          let few : tooLarge (got t (said .rest)) ≡ false = sym (if-false _ (le-ltb _ _ (rw long at f)) (sym (le-ltb _ _ (rw many at h)))) in
-          let none : 0 ≡ textRefusal text = sized-as false few in
-          rw (← none, said .is)
+          rw (← judged-none text few said f h, said .is)
           (λ j. played (seqOf (said .score j .numbers) (said .score j .env) (said .score j .sound)) (is j) (said .score j .numbers .n) (said .score j .seed) (said .score j .draw))

@@ -2,11 +2,8 @@
 use Prim.Native.Nat.{ℕ, zero, suc, _≤_, _<_}
 use mathlib.Core.Path.{_≡_, refl, sym, ap, _∙_}
 use mathlib.Core.List.{List, [], _∷_}
-use mathlib.Core.Bool.{Bool, true, false, cond}
 use native.Mathlib.Omega.{arith}
-use borrow.Author.Tests.{lt-ltb, le-ltb}
 use lib.ListN.{length}
-use Rattle.laws.proofs.If.{if-true, if-false}
 use Rattle.score.specs.Score.{Score}
 use Rattle.score_contract.specs.ScoreCall.{scoreIn}
 use Rattle.score_contract.specs.SessionCall.{SessionEvent, SessionScored, onStation}
@@ -17,13 +14,13 @@ use Rattle.session.specs.declared.session.Session.{Session}
 use Rattle.tally.specs.Tally.{tally}
 use Rattle.tally.specs.Claim.{none, call, seenIn}
 use Rattle.tally.proofs.AllCalls.{all-calls}
-use Rattle.text_digits.specs.Read.{Read, got, broken}
-use Rattle.text_read.specs.Notes.{countOf}
-use Rattle.text_read.specs.Text.{Text, seqOf, textOf}
+use Rattle.text_digits.specs.Read.{broken}
+use Rattle.text_read.specs.Text.{seqOf, textOf}
 use Rattle.text_read.specs.declared.text.TextScore.{TextScore}
 use Rattle.text_read.proofs.Said.{Said}
-use Rattle.text.specs.Listing.{callOf, formBroken, tooLarge, textRefusal}
+use Rattle.text.specs.Listing.{callOf, textRefusal}
 use Rattle.text.proofs.Refused.{refusal-long}
+use Rattle.text.proofs.Judged.{judged-broken, judged-frames, judged-notes, judged-none}
 use Rattle.wave_file.specs.Refusal.{FileResult, refused, partOf, numberOf}
 use Rattle.wave_file.specs.declared.refusal.FileRefusal.{FileRefusal}
 use Rattle.wave_write.specs.Write.{writeResult, writtenIn, fileAfter, Wrote}
@@ -71,41 +68,20 @@ module _ (text : List ℕ) (room : ℕ) where
   file-long h = file-refused 16 (omega arith) (refusal-long text h)
 
   module _ (few : length text ≤ 65536) where
-    read-as : (n : ℕ) (x : Read Text) → textOf text ≡ x → n ≡ cond (formBroken x) 15 (cond (tooLarge x) 16 0) → n ≡ textRefusal text
-    unfolding textRefusal
-    read-as n x is e = if-false _ (le-ltb _ _ few) (rw is e)
-
     pub file-broken : textOf text ≡ broken → refused 15 ≡ textFile text room
-    file-broken e = file-refused 15 (omega arith) (read-as 15 broken e refl)
+    file-broken e = file-refused 15 (omega arith) (judged-broken text few e)
 
     module _ {x : TextScore} {words₀ words : List ℕ} (said : Said x (textOf text) words₀ words) where
-      abbrev t : Text
-      t = said .text
-
-      long : x .numbers .n ≡ t .numbers .n
-      long = ap (λ (y : TextScore). y .numbers .n) (said .score)
-
-      many : x .count ≡ countOf (t .notes)
-      many = ap (λ (y : TextScore). y .count) (said .score)
-
-      -- the text is large where `b` is
-      sized-as : (b : Bool) → tooLarge (got t (said .rest)) ≡ b → cond b 16 0 ≡ textRefusal text
-      sized-as b e = read-as (cond b 16 0) (got t (said .rest)) (said .is) (sym (ap (λ (z : Bool). cond z 16 0) e))
-
       pub file-frames : 2048 < x .numbers .n → refused 16 ≡ textFile text room
-      file-frames h = file-refused 16 (omega arith) (sized-as true (sym (if-true _ (lt-ltb _ _ (rw long at h)) refl)))
+      file-frames h = file-refused 16 (omega arith) (judged-frames text few said h)
 
       pub file-notes : x .numbers .n ≤ 2048 → 256 < x .count → refused 16 ≡ textFile text room
-      file-notes f h =
-          let some : tooLarge (got t (said .rest)) ≡ true = sym (if-false _ (le-ltb _ _ (rw long at f)) (sym (lt-ltb _ _ (rw many at h)))) in
-          file-refused 16 (omega arith) (sized-as true some)
+      file-notes f h = file-refused 16 (omega arith) (judged-notes text few said f h)
 
-      pub file-played : x .numbers .n ≤ 2048 → x .count ≤ 256 → (ws : List ℕ) → ws ≡ t .notes
+      pub file-played : x .numbers .n ≤ 2048 → x .count ≤ 256 → (ws : List ℕ) → ws ≡ said .text .notes
           → playedFile (seqOf (x .numbers) (x .env) (x .sound)) ws (x .numbers .n) (x .seed) (x .draw) room ≡ textFile text room
       unfolding textFile
       file-played f h ws is =
-          let small : tooLarge (got t (said .rest)) ≡ false = sym (if-false _ (le-ltb _ _ (rw long at f)) (sym (le-ltb _ _ (rw many at h)))) in
-          let none : 0 ≡ textRefusal text = sized-as false small in
-          rw (← none, said .is) (λ j.
+          rw (← judged-none text few said f h, said .is) (λ j.
           let y = said .score j in
           playedFile (seqOf (y .numbers) (y .env) (y .sound)) (is j) (y .numbers .n) (y .seed) (y .draw) room)

@@ -1,5 +1,6 @@
 // The C calls: what a rig's host links.
 mod exponential; // exponential.rt: tono_exp
+mod plan; // plan.rt: tono_plan
 mod wave; // wave.rt: the calls on WAVE files
 
 ghost use Rattle.tono.specs.Answered.{Answered};

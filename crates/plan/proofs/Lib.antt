@@ -1,0 +1,4 @@
+pub mod Sorting
+pub mod Totals
+pub mod Refused
+mod Ways
