@@ -1,5 +1,5 @@
-/* tono.h: plays a text score, counts its draws, computes exponentials, and writes and reads WAVE files, from
- * C or C++.
+/* tono.h: plays a text score, counts its draws, prints its cue sheet, computes exponentials, and writes and
+ * reads WAVE files, from C or C++.
  *
  * Link libtono.a, which `rt staticlib tono` writes to target/staticlib. It needs nothing but memcpy and
  * memset of the C library. x86-64 Linux. The header compiles as C99 and later, and as C++. */
@@ -13,9 +13,10 @@
 extern "C" {
 #endif
 
-/* The version of this header and of the library that it belongs to. */
-#define TONO_VERSION "1.0.0"
-#define TONO_VERSION_MAJOR 1
+/* The version of this header and of the library that it belongs to. The first number rises where a score that was
+ * accepted plays otherwise, as a text score does whose N lines stop after the pitch since 2.0.0. */
+#define TONO_VERSION "2.0.0"
+#define TONO_VERSION_MAJOR 2
 #define TONO_VERSION_MINOR 0
 #define TONO_VERSION_PATCH 0
 
@@ -51,6 +52,7 @@ enum tono_refusal {
     TONO_REFUSED_TEMPO_POINTS = 31,
     TONO_REFUSED_TEMPO_ORDER = 32,
     TONO_REFUSED_STATION = 33,
+    TONO_REFUSED_PAGE = 34,
     TONO_REFUSED_HOP = 35,
     TONO_REFUSED_SAMPLE_FORMAT = 36,
     TONO_REFUSED_STRUCTURE = 37
@@ -84,6 +86,7 @@ static inline const char *tono_reason(int number)
     case TONO_REFUSED_TEMPO_POINTS: return "there are more than 64 tempo points, or one has a zero denominator, a numerator beyond 1,000,000,000 or a tempo not from 1 to 1,000";
     case TONO_REFUSED_TEMPO_ORDER: return "the first tempo point is not at beat 0, or a point's beat is not after the one before it";
     case TONO_REFUSED_STATION: return "the station is above 7";
+    case TONO_REFUSED_PAGE: return "the page buffer is shorter than the cue sheet";
     case TONO_REFUSED_HOP: return "the hop is not from 1 to 4,096";
     case TONO_REFUSED_SAMPLE_FORMAT: return "the file's tag, channel count or sample width is not 3, 1 and 32";
     case TONO_REFUSED_STRUCTURE: return "the file's chunks are not those of a WAVE file of this form";
@@ -144,8 +147,37 @@ int64_t tono_play(const uint8_t *score, size_t score_len, uint8_t *reply, size_t
  *
  * The score is lent as to tono_play, draws points to a uint64_t that does not overlap it, and you must make
  * sure of the same. The call keeps no state, allocates nothing, makes no system call and always returns. It
- * uses up to 14,200 bytes of stack, measured on an example of every wave. */
+ * uses up to 14,648 bytes of stack, measured on an example of every wave. */
 int64_t tono_plan(const uint8_t *score, size_t score_len, uint64_t *draws);
+
+/* The length in bytes of the longest cue sheet: 73 for each of 256 notes, and four form feeds. With a page of
+ * this length tono_cue_sheet never returns minus TONO_REFUSED_PAGE. */
+#define TONO_CUE_SHEET_MOST (256 * 73 + 4)
+
+/* Writes the cue sheet of the text score in score[0] .. score[score_len - 1] to the page, from page[0] on: a
+ * line for each note, in list order, to file with a protocol. Nothing is played.
+ *
+ * Returns the length of the sheet in bytes. The bytes of the page after it are left as they were; no 0 is
+ * written at the end. A score without notes has an empty sheet, of length 0, which fits any page. If tono_play
+ * would refuse the score, the call returns minus the number of its R line; if it would not and the sheet is
+ * longer than page_len, minus TONO_REFUSED_PAGE. A refused call changes no byte of the page.
+ *
+ * A line has 72 columns and a line feed (0A). The columns follow without gaps, and all but the wave's name are
+ * right-aligned:
+ *     width   column
+ *         4   the note's place in the list, from 0
+ *         8   its step
+ *         9   its first frame; a dash if the note is skipped
+ *         9   how many of its frames sound; 0 if it is skipped
+ *        10   the wave's name in lower case, left-aligned
+ *        21   its first draw, the count reached before the note; a dash if it is skipped
+ *        11   its draws; 0 if it is skipped
+ * A form feed (0C) follows each 60 lines if more notes follow.
+ *
+ * Score and page are lent as the score and the reply are to tono_play, and you must make sure of the same. The
+ * call keeps no state, allocates nothing, makes no system call and always returns. It uses up to 19,576 bytes
+ * of stack, measured on an example of every wave. */
+int64_t tono_cue_sheet(const uint8_t *score, size_t score_len, uint8_t *page, size_t page_len);
 
 /* The exponential of x, for every x. It is the kernel that the voices call, before that is narrowed to float.
  *

@@ -1,15 +1,17 @@
 # shellcheck shell=bash
 # What the wrappers at the top of the repository share: ./NAME runs the program target/bin/NAME on a text
-# score. A wrapper reads this with the repository's folder and NAME as arguments, and defines `help`. Then it
-# calls `open_score "$@"`, which leaves the score in $room/score and where it came from in $from, and `build`,
-# which leaves the program of the present sources in $program.
+# score. A wrapper reads this with the repository's folder and NAME as arguments, and the program's own name
+# where it is another, and defines `help`. Then it calls `open_score "$@"`, which leaves the score in
+# $room/score and where it came from in $from, and `build`, which leaves the program of the present sources in
+# $program.
 
 # How long the first run takes on 2 cores.
 usual="5 to 15 minutes"
 
 root=$1
 name=$2
-program=$root/target/bin/$name
+package=${3:-$2}
+program=$root/target/bin/$package
 # The sum of the sources that the program was built from, and the program's own.
 record=$root/target/$name.sums
 log=$root/target/$name.log
@@ -101,7 +103,7 @@ is_fresh() {
 
 # How many crates the program rests on, itself included.
 crates() {
-    awk -v top="$name" '
+    awk -v top="$package" '
         { sub(/#.*/, ""); i = index($0, ":") }
         i { name = substr($0, 1, i - 1); gsub(/[ \t]/, "", name); rests[name] = substr($0, i + 1) }
         END {
@@ -138,17 +140,17 @@ prove() {
         say "the sources or the kit changed: proving again what changed, before playing"
         # rt goes by the sources alone, so a program that is another one is built again
         if [ ! -x "$program" ] || [ "$(cut -d ' ' -f 2 "$record")" != "$(sum "$program")" ]; then
-            rm -f -- "$root/target/stamp/$name"
+            rm -f -- "$root/target/stamp/$package"
         fi
     else
         say "first run: proves $total crates before it builds the program; this may take $usual, once"
-        if [ ! -x "$program" ]; then rm -f -- "$root/target/stamp/$name"; fi
+        if [ ! -x "$program" ]; then rm -f -- "$root/target/stamp/$package"; fi
     fi
     SECONDS=0
     : >"$log"
     # in a group of its own, so that a signal can end all of it
     set -m
-    (cd "$root" && exec rt check "$name") >"$log" 2>&1 </dev/null &
+    (cd "$root" && exec rt check "$package") >"$log" 2>&1 </dev/null &
     group=$!
     set +m
     while kill -0 "$group" 2>/dev/null; do

@@ -2,9 +2,9 @@
 
 use crate::engine::Count;
 use crate::{
-    boards, drawbars, helpers, hop_calls, kernels, kit_notes, kit_scores, kits, mapped_calls,
-    note_calls, plan_calls, progress, random, score_calls, station_calls, texts, tones, voices,
-    wave_files,
+    boards, cue_sheets, drawbars, helpers, hop_calls, kernels, kit_notes, kit_scores, kits,
+    mapped_calls, note_calls, plan_calls, progress, random, score_calls, station_calls, texts,
+    tones, voices, wave_files,
 };
 use std::process::{Command, Stdio};
 
@@ -15,7 +15,7 @@ const TEXTS: u64 = 1_000_000;
 /// One row of the table: what is compared, with what, and the run of one case in a number.
 type Part = (&'static str, &'static str, fn(u64) -> Count);
 
-const PARTS: [Part; 19] = [
+const PARTS: [Part; 20] = [
     ("float helpers", "Rust's operations", helpers::run),
     ("kernels", "det.rs and the request's words", |scale| {
         kernels::run_all(kernels::COUNT.div_ceil(scale), scale)
@@ -51,6 +51,9 @@ const PARTS: [Part; 19] = [
     }),
     ("text scores", "01's text call", |scale| {
         texts::run(texts::COUNT.div_ceil(scale))
+    }),
+    ("cue sheets of text scores", "02's Card 7", |scale| {
+        cue_sheets::run(cue_sheets::COUNT.div_ceil(scale))
     }),
     (
         "organs with drawbars",

@@ -50,6 +50,12 @@ mod raw {
             reply: *mut u8,
             reply_len: usize,
         ) -> i64;
+        pub fn tono_cue_sheet(
+            score: *const u8,
+            score_len: usize,
+            page: *mut u8,
+            page_len: usize,
+        ) -> i64;
         pub fn h_board(
             ops: *const u32,
             ops_len: usize,
@@ -335,6 +341,12 @@ pub fn h_plan(args: PlanArgs) -> u32 {
 pub fn tono_play(score: &[u8], reply: &mut [u8]) -> i64 {
     // As above.
     unsafe { raw::tono_play(score.as_ptr(), score.len(), reply.as_mut_ptr(), reply.len()) }
+}
+
+/// The cue sheet's length, or minus a refusal's number.
+pub fn tono_cue_sheet(score: &[u8], page: &mut [u8]) -> i64 {
+    // As above.
+    unsafe { raw::tono_cue_sheet(score.as_ptr(), score.len(), page.as_mut_ptr(), page.len()) }
 }
 
 /// 0, or minus a refusal's number.

@@ -8,6 +8,9 @@ mod board_vectors;
 mod boards;
 mod borders;
 mod cases;
+mod cue_reference;
+mod cue_sheets;
+mod cue_vectors;
 mod drawbars;
 mod dsp;
 mod engine;
@@ -113,6 +116,7 @@ const USAGE: &str =
        compare drawbars [COUNT]  COUNT note calls of organs with drawbars, 10^6 by default, and a tenth as many texts
        compare far-lane          curves about place 2^32 of a lane of 16 GiB, most of which are not in memory; minutes
        compare texts [COUNT]     COUNT text scores and damaged ones, 10^6 by default
+       compare cue-sheets [COUNT [SEED]]  COUNT texts' cue sheets, 10^6 by default; a SEED for other texts
        compare boards [COUNT]    COUNT operations on a board in lists, 10^7 by default
        compare board-vectors     writes the replay files of crates/board_vectors
        compare wave-files [COUNT] COUNT WAVE files, most of them damaged, 10^6 by default
@@ -125,6 +129,7 @@ const USAGE: &str =
        compare score-vectors     writes the replay files of crates/score_vectors
        compare replay-vectors    writes the replay files of crates/replay
        compare wave-vectors      writes the replay files of crates/wave_vectors
+       compare cue-vectors       writes the replay files of crates/cue_vectors
 COMPARE_THREADS says how many threads compare; without it as many as the machine runs at once.";
 
 fn main() -> ExitCode {
@@ -180,6 +185,9 @@ fn main() -> ExitCode {
         ["far-lane"] => status(far_lane::run()),
         ["texts"] => status(texts::run(texts::COUNT)),
         ["texts", count] => counted(count, texts::run),
+        ["cue-sheets"] => status(cue_sheets::run(cue_sheets::COUNT)),
+        ["cue-sheets", count] => counted(count, cue_sheets::run),
+        ["cue-sheets", count, seed] => counted_from(count, seed, cue_sheets::run),
         ["boards"] => status(boards::run(boards::COUNT)),
         ["boards", count] => counted(count, boards::run),
         ["board-vectors"] => written(board_vectors::run()),
@@ -196,6 +204,7 @@ fn main() -> ExitCode {
         ["score-vectors"] => written(score_vectors::run()),
         ["replay-vectors"] => written(replay_vectors::run()),
         ["wave-vectors"] => written(wave_vectors::run()),
+        ["cue-vectors"] => written(cue_vectors::run()),
         ["groove-vectors"] => written(groove_vectors::run()),
         _ => usage(),
     }

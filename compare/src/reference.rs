@@ -200,10 +200,10 @@ pub struct Tally {
 }
 
 /// A call that is accepted: its draws, the count after it, and its notes.
-struct Accepted {
+pub struct Accepted {
     draws: u64,
     after: u64,
-    notes: Vec<SeqNote>,
+    pub notes: Vec<SeqNote>,
 }
 
 impl Tally {
@@ -213,7 +213,7 @@ impl Tally {
     }
 
     /// "Refused: the first refusal that applies gives the number."
-    fn judged(&self, call: &ScoreCall, voice: &Voice, grid: &Grid) -> Result<Accepted, u32> {
+    pub fn judged(&self, call: &ScoreCall, voice: &Voice, grid: &Grid) -> Result<Accepted, u32> {
         if let Some(number) = refusal(call, grid) {
             return Err(number);
         }
@@ -403,7 +403,7 @@ pub fn place_read(w: &[u32], i: usize, hop: u32) -> u64 {
 }
 
 /// The voice with the score's own settings; none where no call is made.
-fn score_voice(call: &ScoreCall) -> Option<Voice> {
+pub fn score_voice(call: &ScoreCall) -> Option<Voice> {
     let knobs = call.knobs.try_into().ok()?;
     let bars = call.bars.try_into().ok()?;
     let env = <[f32; 5]>::try_from(call.env).ok()?;
@@ -461,7 +461,7 @@ impl ScoreCall<'_> {
         }
     }
 
-    fn draws(&self, voice: &Voice, grid: &Grid, note: &SeqNote) -> u128 {
+    pub fn draws(&self, voice: &Voice, grid: &Grid, note: &SeqNote) -> u128 {
         let Some(frames) = grid.place(note) else {
             return 0;
         };

@@ -463,6 +463,32 @@ fn sizes() -> Vec<Case> {
     ]
 }
 
+/// Scores whose cue sheets have no page, a full one, and one line more; steps and counts of every width; and
+/// a page that is too short where 22 applies.
+pub fn sheets() -> Vec<Case> {
+    let many = |wave: u32, count: u32, draw: u64| {
+        let mut score = usual(wave);
+        score.out = 2048;
+        let step = |k: u32| (10_u32.pow(k % 7) * (k % 10)).min(1_048_575);
+        let words = |k: u32| note(step(k), 1 + k % 3, 110.0 + k as f32, 0.5);
+        score.words = (0..count).flat_map(words).collect();
+        Text::of(&score, 0x0123_4567_89ab_cdef, draw).bytes()
+    };
+    let mut cases = Vec::new();
+    for count in [0, 1, 59, 60, 61, 119, 120, 121, 256] {
+        cases.push(case(format!("{count}-lines"), many(4, count, 0)));
+    }
+    for digits in 1..20 {
+        let draw = 10_u64.pow(digits);
+        cases.push(case(format!("draw-{}", draw - 1), many(4, 2, draw - 1)));
+        cases.push(case(format!("draw-{draw}"), many(6, 2, draw)));
+    }
+    let last = u64::MAX - listing(&many(4, 61, 0)).draw;
+    cases.push(case("61-lines-last-draw", many(4, 61, last)));
+    cases.push(case("61-lines-past-it", many(4, 61, last + 1)));
+    cases
+}
+
 /// A fault by its line, its field and the value there.
 type Fault = (usize, usize, &'static str);
 

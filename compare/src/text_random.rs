@@ -93,6 +93,30 @@ pub fn text(s: &mut Source) -> Vec<u8> {
     good_or_not(text, s)
 }
 
+/// The same of a score with as many notes as fill pages of a cue sheet, or about so many; most are good.
+pub fn long_text(s: &mut Source) -> Vec<u8> {
+    let mut score = Score::played(s);
+    score.lane.clear();
+    score.words.clear();
+    score.out = s.pick(&[0, 20, 500, 2048]);
+    let pages = [
+        59, 60, 60, 61, 61, 119, 120, 120, 121, 121, 180, 181, 240, 241, 255, 256, 256, 257,
+    ];
+    for _ in 0..s.pick(&pages) {
+        score.add_number(s);
+    }
+    let draw = s.pick(&[0, 0, 99_999, u64::MAX >> 1]);
+    let mut text = Text::of(&score, s.number(), draw);
+    match s.below(8) {
+        0 => {
+            text.near_the_end(s);
+            text.bytes()
+        }
+        1 => damaged(text, s),
+        _ => text.bytes(),
+    }
+}
+
 /// The same of an organ, of which half are good, and some have another count of numbers.
 pub fn organ_text(s: &mut Source) -> Vec<u8> {
     let mut text = Text::organ(s);

@@ -26,10 +26,10 @@ pub struct Listing {
 }
 
 /// A text score that has its form.
-struct TextScore {
-    seed: u64,
-    draw: u64,
-    score: Score,
+pub struct TextScore {
+    pub seed: u64,
+    pub draw: u64,
+    pub score: Score,
 }
 
 /// "text only, before all others: 16 input above 65,536 bytes; 15 some line not of its form, a line
@@ -42,7 +42,7 @@ pub fn listing(text: &[u8]) -> Listing {
 }
 
 /// The score, or the number of what refuses the text and the draw of its G line, 0 where none was read.
-fn judged(text: &[u8]) -> Result<TextScore, (u32, u64)> {
+pub fn judged(text: &[u8]) -> Result<TextScore, (u32, u64)> {
     if text.len() > MOST_BYTES {
         return Err((16, 0));
     }

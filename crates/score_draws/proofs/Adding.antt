@@ -16,12 +16,13 @@ pub record Added (s : Score) (left k total : ℕ) : Type 0 where
   pub fits : total ≤ left
   pub within : k ≤ noteCount s
 
-draws-more : (s : Score) (k m : ℕ) → drawsBefore s k ≤ drawsBefore s (k + m)
+-- more notes draw no less
+pub draws-more : (s : Score) (k m : ℕ) → drawsBefore s k ≤ drawsBefore s (k + m)
 unfolding drawsBefore
 draws-more s k zero = let z : k + 0 ≡ k = omega arith in rw z (omega arith)
 draws-more s k (suc m) = let z : k + suc m ≡ suc (k + m) = omega arith in rw z (omega (arith, draws-more s k m))
 
-draws-one : (s : Score) (k : ℕ) → drawsBefore s k + noteDraws s (noteIn s k) ≡ drawsBefore s (k + 1)
+pub draws-one : (s : Score) (k : ℕ) → drawsBefore s k + noteDraws s (noteIn s k) ≡ drawsBefore s (k + 1)
 unfolding drawsBefore
 draws-one s k = rw add-one refl
 

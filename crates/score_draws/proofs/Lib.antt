@@ -1,3 +1,3 @@
-mod Adding
+pub mod Adding
 pub mod Last
 mod Most

@@ -13,7 +13,7 @@ use score::Lent;
 use score::Seq;
 
 // The draws of note k: none where it is skipped.
-fn note_draws(seq: Seq, notes: &[u32], lane: &[f32], lent: Lent, k: usize) -> usize
+pub fn note_draws(seq: Seq, notes: &[u32], lane: &[f32], lent: Lent, k: usize) -> usize
     requires { ⌜ refusal (scoreOf seq (now notes) (now lane) lent) ≡ Fine ⌝ }
     requires { ⌜ k < length (now notes) / 5 ⌝ }
     ensures { λ r. ⌜ r ≡ noteDraws (scoreOf seq (now (notes .entry)) (now (lane .entry)) lent) (noteIn (scoreOf seq (now (notes .entry)) (now (lane .entry)) lent) k) ⌝ }

@@ -17,7 +17,7 @@ fn digit_for(v: u64) -> u8
     (v + 87) as u8
 }
 
-pub(crate) fn put_byte(out: &mut [u8], at: usize, b: u8) -> usize
+pub fn put_byte(out: &mut [u8], at: usize, b: u8) -> usize
     requires { ⌜ Room (b ∷ []) at (now out) ⌝ }
     ensures { λ r. ⌜ Printed (b ∷ []) at (now (out .entry)) r (now (out .exit)) ⌝ }
 {
@@ -38,7 +38,7 @@ fn put_hex(out: &mut [u8], at: usize, count: usize, v: u64) -> usize
 }
 
 // v in decimal: the digits of v / 10, and one more.
-fn put_decimal(out: &mut [u8], at: usize, v: u64) -> usize
+pub fn put_decimal(out: &mut [u8], at: usize, v: u64) -> usize
     requires { ⌜ Room (decimalText v) at (now out) ⌝ }
     ensures { λ r. ⌜ Printed (decimalText v) at (now (out .entry)) r (now (out .exit)) ⌝ }
 {

@@ -3,6 +3,8 @@
 mod digits; // digits.rt: bytes and numbers
 mod lines; // lines.rt: the lines G, F and R, and the listing
 
+pub use digits::put_byte;
+pub use digits::put_decimal;
 pub use lines::frame_bits;
 pub use lines::put_lines;
 pub use lines::put_listing;

@@ -1,9 +1,11 @@
 // The C calls: what a rig's host links.
+mod cue_sheet; // cue_sheet.rt: tono_cue_sheet
 mod exponential; // exponential.rt: tono_exp
 mod plan; // plan.rt: tono_plan
 mod wave; // wave.rt: the calls on WAVE files
 
 ghost use Rattle.tono.specs.Answered.{Answered};
+pub use cue_sheet::tono_cue_sheet;
 use text::Reply;
 
 // Writes the listing of the text score `score` at the start of `reply`, and returns its length in

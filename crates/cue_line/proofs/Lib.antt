@@ -1,0 +1,5 @@
+pub mod Putting
+pub mod Digits
+pub mod Right
+pub mod Width
+pub mod Edges

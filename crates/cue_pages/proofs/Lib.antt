@@ -1,0 +1,4 @@
+pub mod Cues
+pub mod Pages
+pub mod Sheets
+pub mod Long

@@ -1,0 +1,15 @@
+// The cue sheet of a text score, for a host that prints it.
+ghost use Rattle.tono.specs.CueSheet.{SheetReturned};
+use text_sheet::Sheet;
+
+// Writes the cue sheet of the text score `score` at the start of `page`, and returns its length in bytes; the
+// bytes after it stay. A refused call returns minus the refusal's number, and changes nothing.
+#[no_mangle]
+pub extern "C" fn tono_cue_sheet(score: &[u8], page: &mut [u8]) -> i64
+    ensures { λ r. ⌜ SheetReturned (now (score .entry)) (now (page .entry)) r (now (page .exit)) ⌝ }
+{
+    match text_sheet::sheet_text(score, page) {
+        Sheet::Bytes(length) => length as i64,
+        Sheet::Refused(number) => -(number as i64),
+    }
+}
