@@ -1,6 +1,6 @@
-/* How much stack the C call takes: plays the scores that the command line names, or plans them after the word
- * `plan`, each on a thread whose stack was filled with one byte, and prints how far down other bytes stand,
- * less what a thread takes that makes no call. */
+/* How much stack the C call takes: plays the scores that the command line names, plans them after the word
+ * `plan`, or prints their cue sheets after the word `sheet`, each on a thread whose stack was filled with one
+ * byte, and prints how far down other bytes stand, less what a thread takes that makes no call. */
 #define _DEFAULT_SOURCE
 #include "tono.h"
 
@@ -16,7 +16,7 @@ static uint8_t score[1 << 18], reply[TONO_LISTING_MOST];
 static uint64_t draws;
 
 struct call {
-    int is_made, is_planned;
+    int is_made, is_planned, is_sheet;
     size_t score_length;
     int64_t answer;
 };
@@ -26,6 +26,8 @@ static void *work(void *at)
     struct call *call = at;
     if (call->is_planned)
         call->answer = tono_plan(score, call->score_length, &draws);
+    else if (call->is_sheet)
+        call->answer = tono_cue_sheet(score, call->score_length, reply, sizeof reply);
     else if (call->is_made)
         call->answer = tono_play(score, call->score_length, reply, sizeof reply);
     return NULL;
@@ -52,12 +54,13 @@ static size_t depth(struct call *call)
 
 int main(int count, char **words)
 {
-    struct call none = {0, 0, 0, 0};
+    struct call none = {0, 0, 0, 0, 0};
     size_t most = 0, idle = depth(&none);
     int is_planned = count > 1 && strcmp(words[1], "plan") == 0;
-    for (int i = 1 + is_planned; i < count; i++) {
+    int is_sheet = count > 1 && strcmp(words[1], "sheet") == 0;
+    for (int i = 1 + is_planned + is_sheet; i < count; i++) {
         FILE *file = fopen(words[i], "rb");
-        struct call call = {1, is_planned, 0, 0};
+        struct call call = {1, is_planned, is_sheet, 0, 0};
         if (file == NULL) {
             perror(words[i]);
             return 1;

@@ -8,6 +8,7 @@ mod board_vectors;
 mod boards;
 mod borders;
 mod cases;
+mod ceilings;
 mod cue_reference;
 mod cue_sheets;
 mod cue_vectors;
@@ -113,6 +114,7 @@ const USAGE: &str =
        compare hops [COUNT [SEED]]  COUNT score calls at hops in lists, 1.5 x 10^6 by default
        compare stations [COUNT [SEED]]  COUNT score calls over stations in lists, 1.25 x 10^6 by default
        compare plans [COUNT [SEED]]  COUNT planning calls and a tenth as many of texts, 10^6 by default
+       compare ceilings [SCALE]  scores that draw the most, at one rate in SCALE
        compare drawbars [COUNT]  COUNT note calls of organs with drawbars, 10^6 by default, and a tenth as many texts
        compare far-lane          curves about place 2^32 of a lane of 16 GiB, most of which are not in memory; minutes
        compare texts [COUNT]     COUNT text scores and damaged ones, 10^6 by default
@@ -180,6 +182,8 @@ fn main() -> ExitCode {
         ["plans"] => status(plan_calls::run(plan_calls::COUNT)),
         ["plans", count] => counted(count, plan_calls::run),
         ["plans", count, seed] => counted_from(count, seed, plan_calls::run),
+        ["ceilings"] => status(ceilings::run(1)),
+        ["ceilings", scale] => scaled(scale, |scale| status(ceilings::run(scale))),
         ["drawbars"] => status(drawbars::run(drawbars::COUNT)),
         ["drawbars", count] => counted(count, drawbars::run),
         ["far-lane"] => status(far_lane::run()),

@@ -23,7 +23,7 @@ use Rattle.dsl.specs.Domain.{Rate}
 use Rattle.counts.specs.Period.{periodOf}
 use Rattle.dsl.proofs.Exact.{rate-value}
 
-c20-value : HasValue c20 false 20 1
+pub c20-value : HasValue c20 false 20 1
 unfolding ofBits
 c20-value = (refl, refl)
 
@@ -31,13 +31,13 @@ c2-value : HasValue c2 false 2 1
 unfolding ofBits
 c2-value = (refl, refl)
 
-div-nan : (f : Format) (x : Float) → div f x nan ≡ nan
+pub div-nan : (f : Format) (x : Float) → div f x nan ≡ nan
 unfolding div
 div-nan f nan = refl
 div-nan f (inf s) = refl
 div-nan f (fin s m e) = refl
 
-cut-nan : toUnsigned 64 (roundOf nan) ≡ 0
+pub cut-nan : toUnsigned 64 (roundOf nan) ≡ 0
 unfolding whole toUnsigned
 cut-nan = refl
 
@@ -47,7 +47,7 @@ period-least rate x = omega arith
 
 module _ (rate : ℕ) (r : Rate rate) where
   -- ---- rate / 2
-  half-value : HasValue (f32 rate ⊘ c2) false (rate * 1) (2 * 1)
+  pub half-value : HasValue (f32 rate ⊘ c2) false (rate * 1) (2 * 1)
   half-value =
       subst (λ (x : Float). HasValue x false (rate * 1) (2 * 1))
       (sym (div-value binary32 (f32 rate) c2 false false rate 1 2 1 (zero-lt-suc 0) (zero-lt-suc 1) (zero-lt-suc 0) (rate-value rate r) c2-value))
@@ -61,10 +61,10 @@ module _ (rate : ℕ) (r : Rate rate) where
 
   -- ---- the period
   module _ (x : Float) where
-    abbrev pitch : Float
+    abbrev pub pitch : Float
     pitch = clampOf x c20 (f32 rate ⊘ c2)
 
-    clamped : (pitch ≡ nan) ⊎ Between 20 1 (rate * 1) (2 * 1) pitch
+    pub clamped : (pitch ≡ nan) ⊎ Between 20 1 (rate * 1) (2 * 1) pitch
     clamped = clamp-between c20 (f32 rate ⊘ c2) 20 1 (rate * 1) (2 * 1) (zero-lt-suc 19) (zero-lt-suc 0) (zero-lt-suc 1) c20-value half-value (ordered rate (r .least)) x
       where
         ordered : (rate : ℕ) → 8000 ≤ rate → 20 * (2 * 1) ≤ rate * 1 * 1

@@ -1,0 +1,5 @@
+pub mod Longest
+pub mod Ceiling
+mod Held
+mod Notes
+pub mod Reached
