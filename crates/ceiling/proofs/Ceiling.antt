@@ -21,7 +21,7 @@ use Rattle.score.specs.Refusals.{refusal}
 use Rattle.score.proofs.Accepted.{accepted-score}
 use Rattle.outcome.specs.declared.answer.Verdict.the-variants.{Fine}
 use Rattle.score.proofs.Notes.{skipped-draws, sounded-draws, all-within, draws-all}
-use Rattle.ceiling.specs.Ceiling.{longest, ceilingOf}
+use Rattle.ceiling.specs.Ceiling.{longestString, ceilingOf}
 use Rattle.ceiling.proofs.Longest.{period-most}
 
 -- a hit of the drum kit draws at most once a frame, whatever its style and drum
@@ -30,7 +30,7 @@ unfolding drawsOf
 kit-under style rate first frames = kit-most style (firstDrum first) rate frames
 
 -- one note: noise and flute draw once a frame, piano and kit no more, and a string is no longer than that of 20 Hz
-pub draws-under : (wave : SeqWave) (style : KitStyle) (rate : ℕ) → Rate rate → (first : Float) (frames : ℕ) → drawsOf wave style rate first frames ≤ max frames (longest rate)
+pub draws-under : (wave : SeqWave) (style : KitStyle) (rate : ℕ) → Rate rate → (first : Float) (frames : ℕ) → drawsOf wave style rate first frames ≤ max frames (longestString rate)
 unfolding drawsOf
 draws-under Square style rate r first frames = omega arith
 draws-under Triangle style rate r first frames = omega arith
@@ -53,7 +53,7 @@ draws-under Cowbell style rate r first frames = omega arith
 
 module _ (s : Score) (r : Rate (rateIn s)) where
   abbrev most : ℕ
-  most = max (s .n) (longest (rateIn s))
+  most = max (s .n) (longestString (rateIn s))
 
   sounded-under : (m : SeqNote) (b : Bool) → skips s m ≡ b → noteDraws s (Note m) ≤ most
   sounded-under m true past = let none = skipped-draws s m (leb-true (s .n) (place s m .start) past) in omega arith

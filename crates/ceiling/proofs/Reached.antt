@@ -38,7 +38,7 @@ use Rattle.session.specs.declared.session.Session.{Session}
 use Rattle.score_contract.specs.Frames.{scoreFrames}
 use Rattle.score_contract.specs.ScoreCall.{resultOf}
 use Rattle.score_contract.specs.SessionCall.{resultAt}
-use Rattle.ceiling.specs.Ceiling.{longest, ceilingOf, heldNotes, loudest, plainVoice, mostDrawing}
+use Rattle.ceiling.specs.Ceiling.{longestString, ceilingOf, heldNotes, loudest, plainVoice, mostDrawing}
 use Rattle.ceiling.proofs.Longest.{period-at-20}
 use Rattle.ceiling.proofs.Held.{starts-0, sounds-all}
 use Rattle.ceiling.proofs.Notes.{held, held-length, held-at}
@@ -172,18 +172,18 @@ module _ (rate m n : ℕ) (r : Rate rate) (some : 1 ≤ n) (few : n ≤ 1000000)
   unfolding pitchAt valueAt
   first-pitch = refl
 
-  by-wave : (b : Bool) → leb (longest rate) n ≡ b → drawsOf (cond b Noise Pluck) Classic rate c20 n ≡ max n (longest rate)
+  by-wave : (b : Bool) → leb (longestString rate) n ≡ b → drawsOf (cond b Noise Pluck) Classic rate c20 n ≡ max n (longestString rate)
   unfolding drawsOf
-  by-wave true e = let l = leb-true (longest rate) n e in omega arith
-  by-wave false e = omega (arith, leb-false (longest rate) n e, period-at-20 rate r)
+  by-wave true e = let l = leb-true (longestString rate) n e in omega arith
+  by-wave false e = omega (arith, leb-false (longestString rate) n e, period-at-20 rate r)
 
-  held-draws : noteDraws s (Note held) ≡ max n (longest rate)
+  held-draws : noteDraws s (Note held) ≡ max n (longestString rate)
   unfolding pitchAt valueAt
   held-draws =
-      sym (sounded-draws s held heard) ∙ ap (drawsOf (loudest rate n) Classic rate c20) (sounds-all rate r n some few held refl refl) ∙ by-wave (leb (longest rate) n) refl
+      sym (sounded-draws s held heard) ∙ ap (drawsOf (loudest rate n) Classic rate c20) (sounds-all rate r n some few held refl refl) ∙ by-wave (leb (longestString rate) n) refl
 
   -- ---- and of all
-  draws-to : (k : ℕ) → k ≤ m → drawsBefore s k ≡ k * max n (longest rate)
+  draws-to : (k : ℕ) → k ≤ m → drawsBefore s k ≡ k * max n (longestString rate)
   unfolding drawsBefore
   draws-to zero h = omega arith
   draws-to (suc k) h = let one = ap (noteDraws s) (note-is k (omega arith)) ∙ held-draws in omega (arith, draws-to k (omega arith))

@@ -15,12 +15,12 @@ use Rattle.score.specs.Score.{Score}
 use Rattle.score.specs.declared.seq.Timing.{Timing}
 
 -- "rate / 20 rounded half up", which is the period of a string of 20 Hz
-abbrev pub longest : ℕ → ℕ
-longest rate = (rate + 10) / 20
+abbrev pub longestString : ℕ → ℕ
+longestString rate = (rate + 10) / 20
 
 -- "at most m times the larger of n and rate / 20 rounded half up"
 abbrev pub ceilingOf : ℕ → ℕ → ℕ → ℕ
-ceilingOf rate m n = m * max n (longest rate)
+ceilingOf rate m n = m * max n (longestString rate)
 
 -- a note on step 0 that is held as long as a note can be, of 20 Hz and gain 1
 abbrev pub heldNote : List ℕ
@@ -33,7 +33,7 @@ heldNotes (suc m) = heldNote ++ heldNotes m
 
 -- noise where the frames are no fewer than the longest string, else pluck
 abbrev pub loudest : ℕ → ℕ → SeqWave
-loudest rate n = cond (leb (longest rate) n) Noise Pluck
+loudest rate n = cond (leb (longestString rate) n) Noise Pluck
 
 -- any knobs would do: these are 0, with the original's drawbars and the first style
 abbrev pub plainVoice : SeqWave → SeqVoice
