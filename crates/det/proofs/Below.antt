@@ -67,7 +67,7 @@ negated (fin false m e) n h v =
     least : (n : ℕ) → n ≤ 1000 → min n (2 ^ 63) ≡ n
     least n h = omega arith
 
-power-low : (n : ℕ) → n ≤ 1000 → ofBits binary64 ((1023 - n) * 2 ^ 52) ≡ ldexp2Of (negℤ (pos n))
+pub power-low : (n : ℕ) → n ≤ 1000 → ofBits binary64 ((1023 - n) * 2 ^ 52) ≡ ldexp2Of (negℤ (pos n))
 unfolding ldexp2Of
 power-low zero h = refl
 power-low (suc m) h =
@@ -78,12 +78,12 @@ power-low (suc m) h =
 shifted : (n : ℕ) → n ≤ 1000 → (1075 * 2 ^ 52 + n) * 2 ^ 52 % 2 ^ 64 ≡ n * 2 ^ 52
 shifted n h = omega arith
 
-d1000-value : HasValue d1000 false 1000 1
+pub d1000-value : HasValue d1000 false 1000 1
 unfolding ofBits
 d1000-value = (refl, refl)
 
 -- no power from -1000 to 0 goes by two factors
-one-factor : (n : ℕ) → leZ (pos 1024) (negℤ (pos n)) ≡ false
+pub one-factor : (n : ℕ) → leZ (pos 1024) (negℤ (pos n)) ≡ false
 one-factor zero = refl
 one-factor (suc m) = refl
 

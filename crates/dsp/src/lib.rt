@@ -20,7 +20,7 @@ pub fn cos(x: f32) -> f32
 pub fn exp(x: f32) -> f32
     ensures { λ r. ⌜ r ≡ expOf x ⌝ }
 {
-    det::expf(x)
+    exp_fall::expf(x)
 }
 
 pub fn powf(x: f32, y: f32) -> f32

@@ -5,13 +5,13 @@ use mathlib.Core.Path.{_≡_}
 use Prim.Native.Nat.{_-_, _≤_}
 use lib.ListN.{length, length-set, getD}
 use lib.Ieee.{nan}
-use Rattle.det.specs.Exp.{exp64}
+use Rattle.det.specs.Single.{expfOf}
 use Rattle.blocks.proofs.Block.{Tabled, tabled-none, tabled-next, tabled-all}
 use Rattle.exp_block.proofs.exp_all.Statement.{statement}
 use Rattle.exp_block.proofs.exp_all.Tie as tie
 
 abbrev Inv-loop : tie.InvT-loop
-Inv-loop z out₀ i₀ out i = (i ≤ 64) × (length out ≡ 64) × Tabled (λ k. exp64 (getD z k nan)) nan 0 i out
+Inv-loop z out₀ i₀ out i = (i ≤ 64) × (length out ≡ 64) × Tabled (λ k. expfOf (getD z k nan)) nan 0 i out
 
 abbrev μ-loop : tie.MeasureT-loop
 μ-loop z out₀ i₀ out i = 64 - i

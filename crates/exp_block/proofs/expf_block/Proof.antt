@@ -3,10 +3,10 @@ use borrow.Author.Needs.{needs}
 use Rattle.exp_block.proofs.expf_block.Statement.{statement}
 use Rattle.exp_block.proofs.expf_block.Tie as tie
 
-exp-inside-requires : tie.Need-exp-inside-requires
-exp-inside-requires c κs = (c .before .before .outsiders .ensures (c .before .if1 .taken), c .before .before .before .pre)
+exp-all-requires : tie.Need-exp-all-requires
+exp-all-requires c κs = (c .before .before .outsiders .ensures (c .before .if1 .taken), c .before .before .before .pre)
 
 pub expf-block-spec : {M : Type 1} → statement M
 expf-block-spec =
     tie.close
-    (tie.spec (λ c κs. search needs) exp-inside-requires (λ c κs. search needs) (λ c. search needs) (λ c. search needs))
+    (tie.spec (λ c κs. search needs) exp-all-requires (λ c κs. search needs) (λ c. search needs) (λ c. search needs))

@@ -6,12 +6,12 @@ use borrow.Author.Count.{below-more}
 use Prim.Native.Nat.{ℕ, _-_, _≤_, _<_, _*_}
 use lib.ListN.{getD}
 use lib.Ieee.{nan}
-use Rattle.exp_block.specs.Range.{Inside}
+use Rattle.exp_fall.specs.Falling.{Falling}
 use Rattle.exp_block.proofs.outsiders.Statement.{statement}
 use Rattle.exp_block.proofs.outsiders.Tie as tie
 
 abbrev Inv-loop : tie.InvT-loop
-Inv-loop z bad₀ i₀ bad i = (i ≤ 64) × (bad ≤ i * 5) × (bad ≡ 0 → (k : ℕ) → k < i → Inside (getD z k nan))
+Inv-loop z bad₀ i₀ bad i = (i ≤ 64) × (bad ≤ i * 3) × (bad ≡ 0 → (k : ℕ) → k < i → Falling (getD z k nan))
 
 abbrev μ-loop : tie.MeasureT-loop
 μ-loop z bad₀ i₀ bad i = 64 - i
