@@ -2,6 +2,7 @@
 //! the widened curve.
 
 use crate::engine::Count;
+use crate::harness::h_score;
 use crate::long_scores::{long_hopped, longest_hopped};
 use crate::reference::NO_CALL;
 use crate::score::Score;
@@ -51,6 +52,7 @@ fn long_ones() -> Vec<(String, Vec<Score>)> {
 
 const HOPPED: Lists = Lists {
     what: "score calls at hops",
+    call: h_score,
     most: CALLS,
     random: Score::hopped,
     session: on_station_0,

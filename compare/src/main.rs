@@ -1,17 +1,20 @@
 //! Compares the proved library with plain Rust, and times the two.
 
 mod all;
+mod answers;
 mod bench;
 mod board_random;
 mod board_reference;
 mod board_vectors;
 mod boards;
 mod borders;
+mod call_stream;
 mod cases;
 mod ceilings;
 mod cue_reference;
 mod cue_sheets;
 mod cue_vectors;
+mod customers;
 mod drawbars;
 mod dsp;
 mod engine;
@@ -62,6 +65,7 @@ mod score_random;
 mod score_vectors;
 mod station_calls;
 mod station_cases;
+mod stimulus;
 mod stream;
 mod tempo_points;
 mod text;
@@ -114,6 +118,7 @@ const USAGE: &str =
        compare hops [COUNT [SEED]]  COUNT score calls at hops in lists, 1.5 x 10^6 by default
        compare stations [COUNT [SEED]]  COUNT score calls over stations in lists, 1.25 x 10^6 by default
        compare plans [COUNT [SEED]]  COUNT planning calls and a tenth as many of texts, 10^6 by default
+       compare customers [COUNT [SEED]]  COUNT score calls, note calls and planning calls through the names of tono.h, 10^6 by default
        compare ceilings [SCALE]  scores that draw the most, at one rate in SCALE
        compare drawbars [COUNT]  COUNT note calls of organs with drawbars, 10^6 by default, and a tenth as many texts
        compare far-lane          curves about place 2^32 of a lane of 16 GiB, most of which are not in memory; minutes
@@ -124,8 +129,11 @@ const USAGE: &str =
        compare wave-files [COUNT] COUNT WAVE files, most of them damaged, 10^6 by default
        compare cases FIRST COUNT damaged text scores with their answers, for robust/host.c
        compare wave-cases FIRST COUNT calls on WAVE files with their answers, for robust/wave_host.c
+       compare call-cases FIRST COUNT  score calls and note calls with their answers, for python/calls.py
+       compare answers           the original's answers to the calls on standard input, for .ci/seq_vectors
        compare listing           the listing that 01 asks of the text score on standard input
        compare example           README's score that slows down, by the original
+       compare stimulus          the WAVE file of examples/stimulus.c and stimulus.py on standard output, by the original
        compare groove-vectors    writes the replay files of crates/groove_vectors
        compare voice-vectors     writes the replay files of crates/voice_vectors
        compare score-vectors     writes the replay files of crates/score_vectors
@@ -182,6 +190,9 @@ fn main() -> ExitCode {
         ["plans"] => status(plan_calls::run(plan_calls::COUNT)),
         ["plans", count] => counted(count, plan_calls::run),
         ["plans", count, seed] => counted_from(count, seed, plan_calls::run),
+        ["customers"] => status(customers::run(customers::COUNT)),
+        ["customers", count] => counted(count, customers::run),
+        ["customers", count, seed] => counted_from(count, seed, customers::run),
         ["ceilings"] => status(ceilings::run(1)),
         ["ceilings", scale] => scaled(scale, |scale| status(ceilings::run(scale))),
         ["drawbars"] => status(drawbars::run(drawbars::COUNT)),
@@ -199,8 +210,10 @@ fn main() -> ExitCode {
         ["wave-files", count] => counted(count, wave_files::run),
         ["cases", first, count] => streamed(first, count, text_stream::run),
         ["wave-cases", first, count] => streamed(first, count, wave_stream::run),
+        ["call-cases", first, count] => streamed(first, count, call_stream::run),
         ["listing"] => written(listing()),
         ["example"] => done(example::run()),
+        ["stimulus"] => written(stimulus::run()),
         ["libm"] => done(libm::run(1)),
         ["libm", scale] => scaled(scale, |scale| done(libm::run(scale))),
         ["kernel-vectors"] => written(kernel_vectors::run()),
@@ -210,6 +223,7 @@ fn main() -> ExitCode {
         ["wave-vectors"] => written(wave_vectors::run()),
         ["cue-vectors"] => written(cue_vectors::run()),
         ["groove-vectors"] => written(groove_vectors::run()),
+        ["answers"] => written(answers::run()),
         _ => usage(),
     }
 }

@@ -91,7 +91,7 @@ fn point_words(line: &[u8]) -> [u32; 256] {
 fn map_of(line: &[u8]) -> TempoMap {
     let count = vectors::length_field(line, 11, 256);
     let values = point_words(line);
-    harness_map::map_of(&values[..count])
+    raw_map::map_of(&values[..count])
 }
 
 // mapped RATE STEPS-PER-BEAT SWING HUMANIZE N STEP LEN KIND PITCH GAIN, then how many words of tempo points

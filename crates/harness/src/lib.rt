@@ -5,10 +5,8 @@ mod helpers; // helpers.rt: the float helpers and the generator
 mod kernels; // kernels.rt: the kernels of det
 mod kits; // kits.rt: the drum kit's numbers
 mod notes; // notes.rt: the note call
-mod outcomes; // outcomes.rt: the numbers of an outcome
 mod plans; // plans.rt: the planning call
 mod scores; // scores.rt: the score call
-mod sessions; // sessions.rt: eight seeds and eight counts
 mod tones; // tones.rt: the quarter tones
 
 pub use boards::h_board;

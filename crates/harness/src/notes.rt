@@ -1,16 +1,6 @@
 // The note call from C.
-ghost use Rattle.harness.specs.Note.{NoteExported};
-use crate::outcomes::draws_of;
-use crate::outcomes::number_of;
-use harness_knobs::VoiceAt;
-use harness_knobs::voice_at;
-use rng::Rng;
+ghost use Rattle.tono_seq.specs.Note.{NoteExported};
 
-// 0 where the call is accepted, else the refusal's number. `state` is the generator's, and changes
-// only with an accepted call; `draws` gets the draws made, 0 for a refusal. `bars` has the drawbars, ratio
-// before level. `style` is the place of the kit's style, whatever the wave.
-// Where there is no such wave or style, or there are not 22 knobs and 10 numbers of drawbars, the answer is
-// 4294967295 and nothing changes.
 #[no_mangle]
 pub extern "C" fn h_note(
     rate: u32,
@@ -48,14 +38,18 @@ pub extern "C" fn h_note(
       };
     }) ⌝ }
 {
-    let VoiceAt::Voice(voice) = voice_at(wave, style, knobs, bars) else {
-        return u32::MAX;
-    };
-    let rng = Rng::new(*state);
-    let answer = note::seq_note_signal(rng, rate, voice, gain, pitch, duty, out, string);
-    let after = answer.rng;
-    let outcome = answer.outcome;
-    *state = after.state();
-    *draws = draws_of(outcome);
-    number_of(outcome)
+    tono_seq::seq_note_signal(
+        rate,
+        wave,
+        style,
+        knobs,
+        bars,
+        gain,
+        state,
+        draws,
+        pitch,
+        duty,
+        out,
+        string,
+    )
 }

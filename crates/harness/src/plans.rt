@@ -1,21 +1,6 @@
 // The planning call from C.
-ghost use Rattle.harness_map.specs.Words.{mapOf};
-ghost use Rattle.harness.specs.Plan.{PlanExported};
-use crate::outcomes::draws_of;
-use crate::outcomes::number_of;
-use crate::sessions::eight;
-use crate::sessions::whole;
-use harness_knobs::EnvAt;
-use harness_knobs::VoiceAt;
-use harness_knobs::env_at;
-use harness_knobs::voice_at;
-use score::Seq;
-use score::Timing;
-use session::Session;
+ghost use Rattle.tono_seq.specs.Plan.{PlanExported};
 
-// As `h_score`, with the n frames of its output as a number and no buffers: 0 where the call is accepted, else the
-// refusal's number. `draws` gets the total, 0 for a refusal. Where `h_score` makes no call, the answer is 4294967295
-// and nothing changes.
 #[no_mangle]
 pub extern "C" fn h_plan(
     seeds: &[u64],
@@ -40,18 +25,24 @@ pub extern "C" fn h_plan(
     n: usize,
 ) -> u32
     ensures { λ r. ⌜ PlanExported (record {
-      seeds = now (seeds .entry);
-      counts = now (counts .entry);
+      raw = record {
+        seeds = now (seeds .entry);
+        counts = now (counts .entry);
+        rate = rate;
+        tempo = tempo;
+        «steps_per_beat» = «steps_per_beat»;
+        points = now (points .entry);
+        swing = swing;
+        humanize = humanize;
+        hop = hop;
+        wave = wave;
+        style = style;
+        duty = duty;
+        knobs = now (knobs .entry);
+        bars = now (bars .entry);
+        env = now (env .entry);
+      };
       station = station;
-      timing = record { rate = rate; tempo = tempo; «steps_per_beat» = «steps_per_beat»; «tempo_map» = mapOf (now (points .entry)); swing = swing; humanize = humanize };
-      points = now (points .entry);
-      hop = hop;
-      wave = wave;
-      style = style;
-      duty = duty;
-      knobs = now (knobs .entry);
-      bars = now (bars .entry);
-      env = now (env .entry);
       notes = now (notes .entry);
       lane = now (lane .entry);
       n = n;
@@ -60,36 +51,26 @@ pub extern "C" fn h_plan(
       draws = now (draws .exit);
     }) ⌝ }
 {
-    let VoiceAt::Voice(voice) = voice_at(wave, style, knobs, bars) else {
-        return u32::MAX;
-    };
-    let EnvAt::Env(env) = env_at(env) else {
-        return u32::MAX;
-    };
-    if !whole(seeds.len(), counts.len(), points.len()) {
-        return u32::MAX;
-    }
-    let timing = Timing {
+    tono_seq::planned_draws(
+        seeds,
+        counts,
+        draws,
+        station,
         rate,
         tempo,
         steps_per_beat,
-        tempo_map: harness_map::map_of(points),
+        points,
         swing,
         humanize,
-    };
-    let seq = Seq {
-        timing,
         hop,
-        voice,
+        wave,
+        style,
         duty,
+        knobs,
+        bars,
         env,
-    };
-    let session = Session {
-        seeds: eight(seeds),
-        draws: eight(counts),
-    };
-    let answer = plan::planned_draws(session, station, seq, notes, lane, n);
-    let outcome = answer.outcome;
-    *draws = draws_of(outcome);
-    number_of(outcome)
+        notes,
+        lane,
+        n,
+    )
 }

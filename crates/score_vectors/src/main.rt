@@ -10,10 +10,10 @@
 ghost use Prim.Native.Nat.{_≤_};
 use dsl::Adsr;
 use dsl::SeqVoice;
-use harness_knobs::EnvAt;
-use harness_knobs::VoiceAt;
 use libc::STDIN_FILENO;
 use outcome::Outcome;
+use raw_knobs::EnvAt;
+use raw_knobs::VoiceAt;
 use score::Seq;
 use score::Timing;
 use session::Session;
@@ -73,14 +73,14 @@ fn voice_of(line: &[u8]) -> VoiceAt {
     let style = vectors::u32_field(line, 19);
     let values = floats(line, 20);
     let bars = floats(line, 20 + count);
-    harness_knobs::voice_at(wave, style, &values[..count], &bars[..bar_count])
+    raw_knobs::voice_at(wave, style, &values[..count], &bars[..bar_count])
 }
 
 fn env_of(line: &[u8]) -> EnvAt {
     let from = 20 + vectors::length_field(line, 11, MOST) + vectors::length_field(line, 18, MOST);
     let count = vectors::length_field(line, 12, MOST);
     let values = floats(line, from);
-    harness_knobs::env_at(&values[..count])
+    raw_knobs::env_at(&values[..count])
 }
 
 // The points follow all other values.
@@ -93,7 +93,7 @@ fn map_of(line: &[u8]) -> TempoMap {
         + vectors::length_field(line, 14, MOST);
     let count = vectors::length_field(line, 15, MOST_POINTS);
     let values = point_words(line, from);
-    harness_map::map_of(&values[..count])
+    raw_map::map_of(&values[..count])
 }
 
 fn seq_of(line: &[u8], voice: SeqVoice, env: Adsr) -> Seq {

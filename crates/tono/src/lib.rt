@@ -1,7 +1,9 @@
 // The C calls: what a rig's host links.
 mod cue_sheet; // cue_sheet.rt: tono_cue_sheet
 mod exponential; // exponential.rt: tono_exp
+mod note; // note.rt: tono_note
 mod plan; // plan.rt: tono_plan
+mod seq; // seq.rt: tono_render_seq, tono_planned_draws
 mod wave; // wave.rt: the calls on WAVE files
 
 ghost use Rattle.tono.specs.Answered.{Answered};

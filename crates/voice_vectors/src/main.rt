@@ -2,8 +2,8 @@
 // wave and gives style, rate, gain, state, frames, the pitches and duties of the first frames, of which the
 // last goes on, the knobs and the drawbars; the samples and the state after them are appended.
 ghost use Prim.Native.Nat.{_≤_, _<_};
-use harness_knobs::VoiceAt;
 use libc::STDIN_FILENO;
+use raw_knobs::VoiceAt;
 use rng::Rng;
 
 const FRAMES: usize = 128;
@@ -73,7 +73,7 @@ fn sound(
     let rng = Rng::new(vectors::u64_field(line, 5));
     let wave = vectors::u32_field(line, 1);
     let style = vectors::u32_field(line, 2);
-    let VoiceAt::Voice(voice) = harness_knobs::voice_at(wave, style, set, bars) else {
+    let VoiceAt::Voice(voice) = raw_knobs::voice_at(wave, style, set, bars) else {
         return rng;
     };
     let rate = vectors::u32_field(line, 3);

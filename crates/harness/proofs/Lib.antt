@@ -1,5 +1,0 @@
-mod Eight
-mod Ends
-mod NoteEnds
-mod ScoreEnds
-mod PlanEnds

@@ -1,5 +1,0 @@
-pub mod Called
-pub mod Note
-pub mod Score
-pub mod Stations
-pub mod Plan

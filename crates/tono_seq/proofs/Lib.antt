@@ -1,0 +1,6 @@
+mod Eight
+mod Whole
+mod Ends
+mod NoteEnds
+mod ScoreEnds
+mod PlanEnds

@@ -1,0 +1,10 @@
+-- `tono_seq::outcomes::number_of` meets its contract. Assumes nothing.
+use borrow.Author.Needs.{needs}
+use Rattle.tono_seq.proofs.outcomes.number_of.Statement.{statement}
+use Rattle.tono_seq.proofs.outcomes.number_of.Tie as tie
+
+returns-2 : tie.Need-returns-2
+returns-2 c = rw (c .before .before .outcome .given .1) (c .number .ensures)
+
+pub number-of-spec : {M : Type 1} → statement M
+number-of-spec = tie.close (tie.spec (λ c. search needs) (λ c. search needs) (λ c κs. search needs) (λ c. search needs) returns-2)
