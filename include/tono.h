@@ -16,10 +16,11 @@ extern "C" {
 #endif
 
 /* The version of this header and of the library that it belongs to. The first number rises where a score that was
- * accepted plays otherwise, as a text score does whose N lines stop after the pitch since 2.0.0. */
-#define TONO_VERSION "2.0.0"
+ * accepted plays otherwise, as a text score does whose N lines stop after the pitch since 2.0.0; the second where
+ * calls are added, as those on whole stimuli since 2.1.0. */
+#define TONO_VERSION "2.1.0"
 #define TONO_VERSION_MAJOR 2
-#define TONO_VERSION_MINOR 0
+#define TONO_VERSION_MINOR 1
 #define TONO_VERSION_PATCH 0
 
 static inline const char *tono_version(void)
@@ -138,8 +139,8 @@ static inline const char *tono_reason(int number)
  * The call keeps no state: a score gives the same listing every time. Threads may call it at the same time,
  * each with its own buffers. It allocates nothing, makes no system call and always returns.
  *
- * It uses up to 104,808 bytes of stack, measured on every wave (compare/robust/stack.c). Give a thread that
- * calls it 128 KiB or more beyond its own needs. */
+ * It uses up to 83,496 bytes of stack, measured on an example of every wave (compare/robust/stack.c). Give a
+ * thread that calls it 128 KiB or more beyond its own needs. */
 int64_t tono_play(const uint8_t *score, size_t score_len, uint8_t *reply, size_t reply_len);
 
 /* How many draws the text score in score[0] .. score[score_len - 1] would make: what a planning screen needs
@@ -181,7 +182,7 @@ int64_t tono_plan(const uint8_t *score, size_t score_len, uint64_t *draws);
  * A form feed (0C) follows each 60 lines if more notes follow.
  *
  * Score and page are lent as the score and the reply are to tono_play, and you must make sure of the same. The
- * call keeps no state, allocates nothing, makes no system call and always returns. It uses up to 19,896 bytes
+ * call keeps no state, allocates nothing, makes no system call and always returns. It uses up to 19,832 bytes
  * of stack, measured on an example of every wave. */
 int64_t tono_cue_sheet(const uint8_t *score, size_t score_len, uint8_t *page, size_t page_len);
 
@@ -238,8 +239,8 @@ double tono_exp(double x);
  * give each thread a session of its own, or let one call at a time use a session. Only plans, which write no
  * count, may share a session. They need the floating-point mode that a program starts with, as tono_exp does.
  *
- * Stack: tono_render_seq uses up to 15,400 bytes, tono_planned_draws 9,432 and tono_note 3,752, measured on
- * every wave and style (compare/robust/stack.c). Give a thread that calls them 32 KiB or more beyond its own
+ * Stack: tono_render_seq uses up to 26,552 bytes, tono_planned_draws 9,432 and tono_note 17,384, measured on
+ * every wave and style (compare/robust/stack.c). Give a thread that calls them 64 KiB or more beyond its own
  * needs. */
 
 /* What a call returns that is none. */

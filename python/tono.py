@@ -69,7 +69,7 @@ __all__ = [
 ]
 
 #: The version of this module, and of the library that it calls.
-VERSION = "2.0.0"
+VERSION = "2.1.0"
 __version__ = VERSION
 
 #: The waves, in the order of their numbers.

@@ -56,6 +56,10 @@ tabled-less {a = a} {i = i} j h le = record { at = λ k g m. h .at k g (lower k 
 same-place : (k : ℕ) → k ≡ k - 0
 same-place k = omega arith
 
+-- the value at a place of a table from place 0 on
+pub tabled-at : {Y : Type 0} {of : ℕ → Y} {d : Y} {n : ℕ} {l : List Y} → Tabled of d 0 n l → (k : ℕ) → k < n → getD l k d ≡ of k
+tabled-at {d = d} {l = l} t k h = ap (λ (j : ℕ). getD l j d) (same-place k) ∙ t .at k (omega arith) h
+
 -- a table made from a table, place by place
 pub tabled-through : {X Y : Type 0} {of : ℕ → X} (g : X → Y) {d : X} {e : Y} {n : ℕ} {z : List X} {out : List Y}
     → Tabled of d 0 n z → Tabled (λ k. g (getD z k d)) e 0 n out → Tabled (λ k. g (of k)) e 0 n out
@@ -69,36 +73,55 @@ tabled-shift of from n {d = d} {l = l} t =
     back : (k : ℕ) → from ≤ k → from + (k - from) ≡ k
     back k h = omega arith
 
--- From the frame `from` on, with the values of a table a: what holds at frame i of the second loop. Whatever frames of whatever voice stood before `from`, they are now there up to i.
-pub record Ran {A S O Y : Type 0} (by : A → ℕ → S → O) (sample : O → Y) (state : O → S) (d : A) (a : List A) (from end : ℕ) (out₀ : List Y) (t : S) (i : ℕ) (out : List Y) (s : S) : Type 0 where
+-- and the other way round
+pub tabled-unshift : {Y : Type 0} (of : ℕ → Y) (from n : ℕ) {d : Y} {l : List Y} → Tabled of d from (from + n) l → Tabled (λ k. of (from + k)) d 0 n l
+tabled-unshift of from n {d = d} {l = l} t =
+    record { at = λ k h g. ap (λ (j : ℕ). getD l j d) (back k) ∙ t .at (from + k) (omega arith) (omega arith) }
+  where
+    back : (k : ℕ) → k - 0 ≡ from + k - from
+    back k = omega arith
+
+-- what a table made place by place holds of the frames from `from` on and before `end`
+pub tabled-from : {Y : Type 0} {g : ℕ → Y} {d : Y} {n : ℕ} {l : List Y} (of : ℕ → Y) (from end : ℕ)
+    → Tabled g d 0 n l → end ≤ from + n → ((k : ℕ) → from ≤ k → k < end → g (k - from) ≡ of k) → Tabled of d from end l
+tabled-from {d = d} {n = n} {l = l} of from end t le is =
+    record { at = λ k h m. ap (λ (j : ℕ). getD l j d) (same-place (k - from)) ∙ t .at (k - from) (omega arith) (omega arith) ∙ is k h m }
+
+-- a place of a table from place 0 on
+pub tabled-place : {Y : Type 0} {g : ℕ → Y} {d : Y} {n : ℕ} {l : List Y} → Tabled g d 0 n l → (k : ℕ) → k < n → getD l k d ≡ g k
+tabled-place {d = d} {l = l} t k m = ap (λ (j : ℕ). getD l j d) (same-place k) ∙ t .at k (omega arith) m
+
+-- From the frame `from` on, with what is read at each frame: what holds at frame i of the second loop. Whatever frames of whatever voice stood before `from`, they are now there up to i.
+pub record Ran {A S O Y : Type 0} (by : A → ℕ → S → O) (sample : O → Y) (state : O → S) (read : ℕ → A) (from end : ℕ) (out₀ : List Y) (t : S) (i : ℕ) (out : List Y) (s : S) : Type 0 where
   pub least : from ≤ i
   pub most : i ≤ end
   pub kept : length out ≡ length out₀
-  pub on : (of : ℕ → A) (s₀ : S) (l₀ : List Y) → Tabled of d from end a → Filled (λ i. by (of i) i) sample state s₀ l₀ from out₀ t → Filled (λ i. by (of i) i) sample state s₀ l₀ i out s
+  pub on : (of : ℕ → A) (s₀ : S) (l₀ : List Y) → ((k : ℕ) → from ≤ k → k < end → read k ≡ of k)
+      → Filled (λ i. by (of i) i) sample state s₀ l₀ from out₀ t → Filled (λ i. by (of i) i) sample state s₀ l₀ i out s
 
-module _ {A S O Y : Type 0} {by : A → ℕ → S → O} {sample : O → Y} {state : O → S} {d : A} {a : List A} {from end : ℕ} {out₀ : List Y} {t : S} where
-  pub ran-none : from ≤ end → Ran by sample state d a from end out₀ t from out₀ t
+module _ {A S O Y : Type 0} {by : A → ℕ → S → O} {sample : O → Y} {state : O → S} {read : ℕ → A} {from end : ℕ} {out₀ : List Y} {t : S} where
+  pub ran-none : from ≤ end → Ran by sample state read from end out₀ t from out₀ t
   ran-none h = record { least = omega arith; most = h; kept = refl; on = λ of s₀ l₀ g f. f }
 
   pub ran-more :
       {i : ℕ} {out : List Y} {s : S} {r : O} →
-      Ran by sample state d a from end out₀ t i out s →
+      Ran by sample state read from end out₀ t i out s →
       i < end →
       end ≤ length out₀ →
-      r ≡ by (getD a (i - from) d) i s →
-      Ran by sample state d a from end out₀ t (i + 1) (set out i (sample r)) (state r)
+      r ≡ by (read i) i s →
+      Ran by sample state read from end out₀ t (i + 1) (set out i (sample r)) (state r)
   ran-more {i} {out} {s} {r} h lt fits e = record {
     least = omega (arith, h .least);
     most = omega arith;
     kept = rw length-set (h .kept);
-    on = λ of s₀ l₀ g f. filled-more (h .on of s₀ l₀ g f) (below (length out₀) (length l₀) (filled-length f) fits) (e ∙ ap (λ (x : A). by x i s) (g .at i (h .least) lt));
+    on = λ of s₀ l₀ g f. filled-more (h .on of s₀ l₀ g f) (below (length out₀) (length l₀) (filled-length f) fits) (e ∙ ap (λ (x : A). by x i s) (g i (h .least) lt));
   }
     where
       below : (m n : ℕ) → m ≡ n → end ≤ m → i < n
       below m n z h = omega arith
 
-  pub ran-all : {i : ℕ} {out : List Y} {s : S} → Ran by sample state d a from end out₀ t i out s → end ≤ i → Ran by sample state d a from end out₀ t end out s
-  ran-all {i} {out} {s} h le = subst (λ (k : ℕ). Ran by sample state d a from end out₀ t k out s) (same i end (h .most) le) h
+  pub ran-all : {i : ℕ} {out : List Y} {s : S} → Ran by sample state read from end out₀ t i out s → end ≤ i → Ran by sample state read from end out₀ t end out s
+  ran-all {i} {out} {s} h le = subst (λ (k : ℕ). Ran by sample state read from end out₀ t k out s) (same i end (h .most) le) h
     where
       same : (i n : ℕ) → i ≤ n → n ≤ i → i ≡ n
       same i n h g = omega arith

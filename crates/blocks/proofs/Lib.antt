@@ -1,1 +1,5 @@
 pub mod Block
+pub mod Counted
+pub mod Carried
+pub mod Rows
+pub mod Advanced

@@ -4,8 +4,9 @@ use lib.Ieee.{Float, binary32, ofBits, neg}
 use Rattle.ieee.specs.Numbers.{c0·45, c1, c1200}
 use Rattle.ieee.specs.Binary32.{_⊕_, _⊖_, _⊗_, _⊘_}
 use Rattle.ieee.specs.Order.{minOf}
-use Rattle.dsp.specs.Kernels.{TAU, expOf}
-use Rattle.osc.specs.Phase.{seconds}
+use Rattle.dsp.specs.Kernels.{TAU}
+use Rattle.frame_block.specs.Decay.{decayAt}
+use Rattle.opening_block.specs.Opened.{openedBy}
 
 -- 0.07
 abbrev pub c0·07 : Float
@@ -19,17 +20,9 @@ c800 = ofBits binary32 0x44480000
 abbrev pub c1400 : Float
 c1400 = ofBits binary32 0x44af0000
 
--- the argument of the first exponential, at frame i
-abbrev pub swellAt : Float → ℕ → Float
-swellAt srf i = neg (seconds srf i) ⊘ c0·07
-
--- the argument of the second, by the first exponential e
+-- the argument of the second exponential, by the first one, e
 abbrev pub cutoffBy : Float → Float → Float → Float
 cutoffBy gain srf e = neg TAU ⊗ minOf (c800 ⊕ (c1400 ⊕ c1200 ⊗ gain) ⊗ (c1 ⊖ e)) (c0·45 ⊗ srf) ⊘ srf
 
--- what the filter is moved by, by the second exponential e
-abbrev pub restOf : Float → Float
-restOf e = c1 ⊖ e
-
 unfoldable pub openingAt : Float → Float → ℕ → Float
-openingAt gain srf i = restOf (expOf (cutoffBy gain srf (expOf (swellAt srf i))))
+openingAt gain srf i = openedBy (cutoffBy gain srf (decayAt srf c0·07 i))

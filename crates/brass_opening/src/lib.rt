@@ -6,7 +6,7 @@ ghost use lib.ListN.{length, getD};
 ghost use lib.Ieee.{nan};
 ghost use Rattle.blocks.proofs.Block.{Tabled};
 ghost use Rattle.dsl.specs.Domain.{Frames};
-ghost use Rattle.brass_opening.specs.Opening.{swellAt, cutoffBy, restOf, openingAt};
+ghost use Rattle.brass_opening.specs.Opening.{cutoffBy, openingAt};
 
 // How far the filter opens at frame i.
 fn opening(gain: f32, srf: f32, i: usize) -> f32
@@ -16,25 +16,6 @@ fn opening(gain: f32, srf: f32, i: usize) -> f32
     let t = osc::frame_time(i, srf);
     let cutoff = 800.0 + (1400.0 + 1200.0 * gain) * (1.0 - dsp::exp(-t / 0.07));
     1.0 - dsp::exp(-dsp::TAU * float::min_f32(cutoff, 0.45 * srf) / srf)
-}
-
-fn swell(srf: f32, i: usize) -> f32
-    requires { ⌜ Frames i ⌝ }
-    ensures { λ r. ⌜ r ≡ swellAt srf i ⌝ }
-{
-    -osc::frame_time(i, srf) / 0.07
-}
-
-fn swells(srf: f32, from: usize, x: &mut [f32; 64])
-    requires { ⌜ from + 64 ≤ 16777216 ⌝ }
-    requires { ⌜ length (now x) ≡ 64 ⌝ }
-    ensures { λ _. ⌜ Tabled (λ k. swellAt srf (from + k)) nan 0 64 (now (x .exit)) ⌝ }
-{
-    let mut i = 0usize;
-    while i < 64 {
-        x[i] = swell(srf, from + i);
-        i += 1;
-    }
 }
 
 fn cutoff(gain: f32, srf: f32, e: f32) -> f32
@@ -55,38 +36,17 @@ fn cutoffs(gain: f32, srf: f32, e: &[f32; 64], x: &mut [f32; 64])
     }
 }
 
-fn rest(e: f32) -> f32
-    ensures { λ r. ⌜ r ≡ restOf e ⌝ }
-{
-    1.0 - e
-}
-
-fn rests(e: &[f32; 64], a: &mut [f32; 64])
-    requires { ⌜ length (now a) ≡ 64 ⌝ }
-    ensures { λ _. ⌜ (length (now (a .exit)) ≡ 64) × Tabled (λ k. restOf (getD (now (e .entry)) k nan)) nan 0 64 (now (a .exit)) ⌝ }
-{
-    let mut i = 0usize;
-    while i < 64 {
-        a[i] = rest(e[i]);
-        i += 1;
-    }
-}
-
 // The openings of 64 frames.
 fn openings_whole(gain: f32, srf: f32, from: usize, a: &mut [f32; 64])
     requires { ⌜ from + 64 ≤ 16777216 ⌝ }
     requires { ⌜ length (now a) ≡ 64 ⌝ }
     ensures { λ _. ⌜ (length (now (a .exit)) ≡ 64) × Tabled (openingAt gain srf) nan from (from + 64) (now (a .exit)) ⌝ }
 {
-    let mut t = [0.0f32; 64];
-    swells(srf, from, &mut t);
     let mut e = [0.0f32; 64];
-    exp_block::expf_block(&t, &mut e);
+    frame_block::decays_before(srf, 0.07, from, from + 64, &mut e);
     let mut u = [0.0f32; 64];
     cutoffs(gain, srf, &e, &mut u);
-    let mut f = [0.0f32; 64];
-    exp_block::expf_block(&u, &mut f);
-    rests(&f, a);
+    opening_block::openings(&u, a);
 }
 
 // The openings of a few frames.

@@ -1,5 +1,4 @@
 pub mod Putting
-pub mod Digits
 pub mod Right
 pub mod Width
 pub mod Edges

@@ -2,10 +2,10 @@
 ghost use mathlib.Core.Path.{_≡_};
 ghost use Prim.Native.Nat.{_-_};
 ghost use lib.ListN.{length};
-ghost use Rattle.text_listing.specs.Digits.{decimalText};
 ghost use Rattle.text_listing.specs.Printed.{Room, Printed};
 ghost use Rattle.cue_line.specs.Columns.{cellText, right};
 use crate::put::put_spaces;
+use text_listing::decimal_length;
 use text_listing::put_byte;
 use text_listing::put_decimal;
 
@@ -13,19 +13,6 @@ use text_listing::put_decimal;
 pub enum Cell {
     Number(u64),
     Dash,
-}
-
-// How many decimal digits v has.
-fn decimal_length(v: u64) -> usize
-    ensures { λ r. ⌜ r ≡ length (decimalText v) ⌝ }
-{
-    let mut rest = v;
-    let mut digits: usize = 1;
-    while rest >= 10 {
-        rest /= 10;
-        digits += 1;
-    }
-    digits
 }
 
 fn cell_length(cell: Cell) -> usize

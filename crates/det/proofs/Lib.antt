@@ -3,4 +3,6 @@ pub mod Numbers
 pub mod Powers
 pub mod Pattern
 pub mod Differences
+pub mod Sums
 pub mod Below
+pub mod Above

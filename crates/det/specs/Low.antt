@@ -1,4 +1,4 @@
--- Where the exponential is done without a branch: below 0, not far, and with x / ln 2 not half-way between whole numbers.
+-- Where the exponential is done without a branch: not far from 0 on either side, and with x / ln 2 not half-way between whole numbers.
 use mathlib.Core.Path.{_≡_}
 use mathlib.Core.Bool.{true}
 use lib.Ieee.{Float, binary64, ofBits, lt, neg}
@@ -14,11 +14,20 @@ d2·52 = ofBits binary64 0x4330_0000_0000_0000
 abbrev pub d1000 : Float
 d1000 = ofBits binary64 0x408f_4000_0000_0000
 
+-- the whole number nearest to a is its sum with 2^52, less 2^52
+pub record Summed (a : Float) : Type 0 where
+  pub positive : lt d0 a ≡ true
+  pub below : lt a d1000 ≡ true
+  pub near : lt a (a ⊞ d2·52 ⊟ d2·52 ⊞ d0·5) ≡ true
+
 -- -x / ln 2
 abbrev pub quotient : Float → Float
 quotient x = neg (x ⊠ INV·LN2)
 
-pub record Low (x : Float) : Type 0 where
-  pub positive : lt d0 (quotient x) ≡ true
-  pub below : lt (quotient x) d1000 ≡ true
-  pub near : lt (quotient x) (quotient x ⊞ d2·52 ⊟ d2·52 ⊞ d0·5) ≡ true
+-- below 0
+abbrev pub Low : Float → Type 0
+Low x = Summed (quotient x)
+
+-- above 0
+abbrev pub High : Float → Type 0
+High x = Summed (x ⊠ INV·LN2)

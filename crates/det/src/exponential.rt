@@ -2,11 +2,10 @@
 ghost use mathlib.Core.Path.{_≡_};
 ghost use lib.Dec.{T};
 ghost use Rattle.det.specs.Exp.{ldexp2Of, scaled, expFrom, expReduced, exp64};
-ghost use Rattle.det.specs.Low.{Low};
+ghost use Rattle.det.specs.Low.{High, Low};
 ghost use Rattle.det.specs.Rounded.{noFraction};
 use crate::rounded::rounded_to_i64;
 use crate::special::infinity;
-use float::Near;
 
 pub(crate) const LN2_HI: f64 = 6.93147180369123816490e-01; // 3fe62e42fee00000
 
@@ -67,20 +66,11 @@ fn exp_from(x: f64, k: f64) -> f64
     scaled(y, rounded_to_i64(k))
 }
 
-// k is x / ln 2, rounded: above zero, below it, and where `near_f64` gives nothing.
+// The plain way.
 fn exp_rounded(x: f64) -> f64
     ensures { λ r. ⌜ r ≡ expReduced x ⌝ }
 {
-    let t = x * INV_LN2;
-    let above = float::near_f64(t);
-    if let Near::Whole(n) = above {
-        return exp_from(x, n);
-    }
-    let below = float::near_f64(-t);
-    if let Near::Whole(n) = below {
-        return exp_from(x, -n);
-    }
-    exp_from(x, float::round_f64(t))
+    exp_from(x, float::round_f64(x * INV_LN2))
 }
 
 // Below zero, with no branch. The whole number n nearest to -x / ln 2 stands in the last digits of its sum with 2^52, and
@@ -99,7 +89,36 @@ pub fn exp_low(x: f64) -> f64
     y * f64::from_bits(0x3ff0_0000_0000_0000 - (f64::to_bits(s) << 52))
 }
 
-// Every exponential that a voice asks for in each frame has an argument below zero.
+// Above zero: 2^n has the exponent's field 1023 + n.
+fn exp_high(x: f64) -> f64
+    requires { ⌜ High x ⌝ }
+    ensures { λ r. ⌜ r ≡ expReduced x ⌝ }
+{
+    let s = x * INV_LN2 + 4503599627370496.0;
+    let k = s - 4503599627370496.0;
+    let r = (x - k * LN2_HI) - k * LN2_LO;
+    let t = r * r;
+    let c = r - t * (P1 + t * (P2 + t * (P3 + t * (P4 + t * P5))));
+    let y = 1.0 - ((r * c) / (c - 2.0) - r);
+    y * f64::from_bits(0x3ff0_0000_0000_0000 + (f64::to_bits(s) << 52))
+}
+
+// As far as 1000 ln 2, and not half-way between two whole numbers.
+fn exp_above(x: f64) -> f64
+    ensures { λ r. ⌜ r ≡ expReduced x ⌝ }
+{
+    let t = x * INV_LN2;
+    if t > 0.0 {
+        if t < 1000.0 {
+            if t < ((t + 4503599627370496.0) - 4503599627370496.0) + 0.5 {
+                return exp_high(x);
+            }
+        }
+    }
+    exp_rounded(x)
+}
+
+// Every exponential that a voice asks for in each frame has an argument below zero, but for those of the tangent.
 fn exp_reduced(x: f64) -> f64
     ensures { λ r. ⌜ r ≡ expReduced x ⌝ }
 {
@@ -111,7 +130,7 @@ fn exp_reduced(x: f64) -> f64
             }
         }
     }
-    exp_rounded(x)
+    exp_above(x)
 }
 
 pub fn exp(x: f64) -> f64

@@ -1,8 +1,13 @@
-// A note's envelope: `adsr_env` of dsp.rs, and `adsr` of render/mod.rs as a reading at a frame.
+// A note's envelope, stage by stage: `adsr_env` of dsp.rs, and `adsr` of render/mod.rs as a reading at a
+// frame. A stage is a run of frames, since their times rise.
 ghost use mathlib.Core.Path.{_≡_};
 ghost use Prim.Native.Nat.{_≤_};
-ghost use Rattle.dsl.specs.Domain.{Frames};
-ghost use Rattle.envelope.specs.Envelope.{shareOf, levelOf, adsrEnv, releaseStart};
+ghost use lib.Ieee.{lt};
+ghost use Rattle.ieee.specs.Numbers.{f32};
+ghost use Rattle.osc.specs.Phase.{seconds};
+ghost use Rattle.dsl.specs.Domain.{Rate, Frames};
+ghost use Rattle.envelope.specs.Envelope.{shareOf, punchedOf, releaseStart};
+ghost use Rattle.envelope.specs.Stages.{attackOf, decayOf, releaseOf, Parted};
 use dsl::Adsr;
 
 fn share(x: f32, stage: f32) -> f32
@@ -14,35 +19,39 @@ fn share(x: f32, stage: f32) -> f32
     1.0
 }
 
-fn level(t: f32, env: Adsr, rel_start: f32) -> f32
-    ensures { λ r. ⌜ r ≡ levelOf t env «rel_start» ⌝ }
+// Punch boosts the attack and the decay, most at the start.
+fn punched(t: f32, punch: f32, punch_win: f32, v: f32) -> f32
+    ensures { λ r. ⌜ r ≡ punchedOf t punch «punch_win» v ⌝ }
 {
-    if t < env.a {
-        return share(t, env.a);
+    if punch > 0.0 && punch_win > 0.0 && t < punch_win {
+        return v * (1.0 + punch * (1.0 - t / punch_win));
     }
-    if t < env.a + env.d {
-        return 1.0 - (1.0 - env.s) * share(t - env.a, env.d);
-    }
-    if t < rel_start {
-        return env.s;
-    }
+    v
+}
+
+// The envelope at t seconds, within the attack.
+pub fn attack(t: f32, env: Adsr) -> f32
+    ensures { λ r. ⌜ r ≡ attackOf t env ⌝ }
+{
+    punched(t, env.punch, env.a + env.d, share(t, env.a))
+}
+
+// The envelope at t seconds, within the decay.
+pub fn decay(t: f32, env: Adsr) -> f32
+    ensures { λ r. ⌜ r ≡ decayOf t env ⌝ }
+{
+    let v = 1.0 - (1.0 - env.s) * share(t - env.a, env.d);
+    punched(t, env.punch, env.a + env.d, v)
+}
+
+// The envelope at t seconds, within the release.
+pub fn release(t: f32, env: Adsr, rel_start: f32) -> f32
+    ensures { λ r. ⌜ r ≡ releaseOf t env «rel_start» ⌝ }
+{
     if env.r > 0.0 {
         return env.s * (1.0 - float::clamp_f32((t - rel_start) / env.r, 0.0, 1.0));
     }
     0.0
-}
-
-// The envelope at t seconds: attack, decay, sustain, and from `rel_start` on the release; punch boosts
-// the attack and the decay, most at the start.
-pub fn adsr_env(t: f32, env: Adsr, rel_start: f32) -> f32
-    ensures { λ r. ⌜ r ≡ adsrEnv t env «rel_start» ⌝ }
-{
-    let v = level(t, env, rel_start);
-    let punch_win = env.a + env.d;
-    if env.punch > 0.0 && punch_win > 0.0 && t < punch_win {
-        return v * (1.0 + env.punch * (1.0 - t / punch_win));
-    }
-    v
 }
 
 // Where the release of a note of `len` frames starts, in seconds: the envelope spans the whole length,
@@ -53,4 +62,26 @@ pub fn release_start(env: Adsr, len: usize, rate: u32) -> f32
 {
     let srf = std::num::nearest_u32_to_f32(rate);
     float::max_f32(osc::frame_time(len, srf) - env.r, 0.0)
+}
+
+// The end of a stage that lasts until `end` seconds, among the frames from `from` on and below n: the first
+// whose time is not below `end`, by halves.
+pub fn stage_end(end: f32, from: usize, n: usize, rate: u32) -> usize
+    requires { ⌜ Rate rate ⌝ }
+    requires { ⌜ Frames n ⌝ }
+    requires { ⌜ from ≤ n ⌝ }
+    ensures { λ r. ⌜ Parted (λ i. lt (seconds (f32 rate) i) end) from n r ⌝ }
+{
+    let srf = std::num::nearest_u32_to_f32(rate);
+    let mut low = from;
+    let mut high = n;
+    while low < high {
+        let middle = low + (high - low) / 2;
+        if osc::frame_time(middle, srf) < end {
+            low = middle + 1;
+        } else {
+            high = middle;
+        }
+    }
+    low
 }

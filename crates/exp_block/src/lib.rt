@@ -55,7 +55,7 @@ fn exp_one(x: f32) -> f32
 fn exp_all(x: &[f32; 64], out: &mut [f32; 64])
     requires { ⌜ ((k : ℕ) → k < 64 → Falling (getD (now x) k nan)) ⌝ }
     requires { ⌜ length (now out) ≡ 64 ⌝ }
-    ensures { λ _. ⌜ Tabled (λ k. expfOf (getD (now (x .entry)) k nan)) nan 0 64 (now (out .exit)) ⌝ }
+    ensures { λ _. ⌜ (length (now (out .exit)) ≡ 64) × Tabled (λ k. expfOf (getD (now (x .entry)) k nan)) nan 0 64 (now (out .exit)) ⌝ }
 {
     let mut i = 0usize;
     while i < 64 {
@@ -66,7 +66,7 @@ fn exp_all(x: &[f32; 64], out: &mut [f32; 64])
 
 fn exp_each(x: &[f32; 64], out: &mut [f32; 64])
     requires { ⌜ length (now out) ≡ 64 ⌝ }
-    ensures { λ _. ⌜ Tabled (λ k. expfOf (getD (now (x .entry)) k nan)) nan 0 64 (now (out .exit)) ⌝ }
+    ensures { λ _. ⌜ (length (now (out .exit)) ≡ 64) × Tabled (λ k. expfOf (getD (now (x .entry)) k nan)) nan 0 64 (now (out .exit)) ⌝ }
 {
     let mut i = 0usize;
     while i < 64 {
@@ -78,7 +78,7 @@ fn exp_each(x: &[f32; 64], out: &mut [f32; 64])
 // Where all 64 are decays, without a branch.
 pub fn expf_block(x: &[f32; 64], out: &mut [f32; 64])
     requires { ⌜ length (now out) ≡ 64 ⌝ }
-    ensures { λ _. ⌜ Tabled (λ k. expfOf (getD (now (x .entry)) k nan)) nan 0 64 (now (out .exit)) ⌝ }
+    ensures { λ _. ⌜ (length (now (out .exit)) ≡ 64) × Tabled (λ k. expfOf (getD (now (x .entry)) k nan)) nan 0 64 (now (out .exit)) ⌝ }
 {
     if outsiders(x) == 0 {
         exp_all(x, out);

@@ -1,15 +1,16 @@
 -- What holds of an exponential whose argument is `Falling`: the two cutoffs are passed, `Low` holds, and its value lies between 2^-124 and 2. Assumes nothing.
 use mathlib.Core.Path.{_≡_, refl, sym, ap, _∙_, subst}
-use mathlib.Core.Bool.{Bool, true, false, not, cond, true≢false, false≢true}
-use Prim.Native.Nat.{ℕ, zero, suc, _+_, _-_, _*_, _/_, _%_, _^_, _≤_, _<_}
-use native.Mathlib.Nat.{le-trans, le-of-eq, lt-of-le-of-lt, lt-of-not-le, not-le-of-lt, mul-lt-mul-of-pos-right, le-of-suc-le-suc, mul-assoc, mul-one, one-mul, mul-comm, mul-mul-mul-comm, mul-le-mul, mul-le-mul-right, mul-le-mul-left, zero-lt-suc, le-div-iff-mul-le, div-lt-iff-lt-mul}
+use mathlib.Core.Bool.{Bool, true, false, not, cond, true≢false}
+use Prim.Native.Nat.{ℕ, _+_, _-_, _*_, _/_, _%_, _^_, _≤_, _<_}
+use native.Mathlib.Nat.{le-trans, le-of-eq, lt-of-le-of-lt, lt-of-not-le, not-le-of-lt, mul-lt-mul-of-pos-right, le-of-suc-le-suc}
+use native.Mathlib.Nat.{mul-assoc, mul-one, one-mul, mul-comm, mul-le-mul-right, mul-le-mul-left, le-div-iff-mul-le, div-lt-iff-lt-mul}
 use native.Mathlib.Omega.{arith}
 use borrow.Author.Tests.{le-ltb, lt-leb}
 use lib.Dec.{T, leb, lit≤, lit<}
-use lib.IntN.{ℤ, pos, negsuc, negℤ}
+use lib.IntN.{ℤ, pos, negℤ}
 use lib.Pow.{pow-pos, pow-mono, pow-add}
 use lib.Signed.{leZ}
-use lib.Ieee.{Float, nan, inf, fin, binary32, binary64, up, down, mul, neg, lt, size, round, fits, isNan, ofFields, ofBits, toBits, toSigned}
+use lib.Ieee.{Float, nan, inf, fin, binary64, up, down, mul, neg, lt, size, isNan, ofFields, ofBits, toBits, toSigned}
 use lib.Ieee.Digits.{size-lt, size-reaches, size-le}
 use lib.Ieee.Fits.{down-pos}
 use lib.Ieee.Exact.{HasValue}
@@ -23,7 +24,8 @@ use Rattle.ieee.proofs.Bounded.{Bounded, Beyond, bounded-more, exact-dyadic, mu
 use Rattle.ieee.proofs.Fields.{fields-mid}
 use Rattle.det.specs.Exp.{INV·LN2, EXP·MAX, EXP·MIN, ldexp2Of, scaled, lessLn2, expNear, powerOf, expFrom, expReduced, exp64}
 use Rattle.det.specs.Low.{d1000, quotient, Low}
-use Rattle.det.proofs.Below.{one-factor, power-low, d1000-value}
+use Rattle.det.proofs.Sums.{d1000-value}
+use Rattle.det.proofs.Below.{one-factor, power-low}
 use Rattle.det_corners.proofs.Nearness.{Small, near-most, near-least}
 use Rattle.det_corners.proofs.Reduction.{INV, Reduced, reduce, inv-below, moved}
 use Rattle.det_corners.proofs.Scaling.{Middle, middle}
@@ -224,7 +226,9 @@ module _ (N : ℕ) (least : 2 ^ 950 ≤ N) (most : N < 2 ^ 1076) where
   S-most = size-le N 1076 most
 
   q-least : 2 ^ 52 ≤ N / 2 ^ (S - 53)
-  q-least = le-div-iff-mul-le (pow-pos (S - 53)) .1 (le-trans (le-of-eq (sym (pow-add 2 52 (S - 53)) ∙ ap (λ (n : ℕ). 2 ^ n) (exponent S S-least))) (size-reaches N (S - 1) (omega (arith, S-least))))
+  q-least =
+      le-div-iff-mul-le (pow-pos (S - 53)) .1
+      (le-trans (le-of-eq (sym (pow-add 2 52 (S - 53)) ∙ ap (λ (n : ℕ). 2 ^ n) (exponent S S-least))) (size-reaches N (S - 1) (omega (arith, S-least))))
 
   q-most : N / 2 ^ (S - 53) < 2 ^ 53
   q-most = div-lt-iff-lt-mul (pow-pos (S - 53)) .1 (subst (λ (n : ℕ). N < n) (sym (sym (pow-add 2 53 (S - 53)) ∙ ap (λ (n : ℕ). 2 ^ n) (exponent-next S S-least))) (size-lt N))
@@ -289,4 +293,5 @@ module _ (x : Float) (F : Falling x) where
   pub falling-normal : Normal (expReduced x)
   falling-normal =
       let small = near-most (lessLn2 x (powerOf x)) (R x F .rest) in
-      subst Normal value (normal (y x F ⊠ ofBits binary64 ((1023 - R x F .n) * 2 ^ 52)) (product-most (y x F) (M x F) small (R x F .n) n-most) (product-least (y x F) (M x F) small (R x F .n) n-most))
+      subst Normal value (normal (y x F ⊠ ofBits binary64 ((1023 - R x F .n) * 2 ^ 52)) (product-most (y x F) (M x F) small (R x F .n) n-most)
+      (product-least (y x F) (M x F) small (R x F .n) n-most))

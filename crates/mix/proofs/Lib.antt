@@ -1,1 +1,3 @@
 pub mod Mixing
+mod Stretching
+mod Staged

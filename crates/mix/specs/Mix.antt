@@ -14,9 +14,13 @@ unfoldable pub silence : ℕ → List Float
 silence zero = []
 silence (suc n) = silence n ++ (c0 ∷ [])
 
--- what frame i gains of a note's sample there; len is the note's whole length
+-- what frame i gains of a note's sample there at a level for each frame
+abbrev pub gainedBy : List Float → (ℕ → Float) → Float → ℕ → Float → Float
+gainedBy note level gain i y = y ⊕ getD note i nan ⊗ level i ⊗ gain
+
+-- at the level of its envelope; len is the note's whole length
 abbrev pub gained : List Float → Adsr → ℕ → ℕ → Float → ℕ → Float → Float
-gained note env len rate gain i y = y ⊕ getD note i nan ⊗ adsrAt env len rate i ⊗ gain
+gained note env len rate gain = gainedBy note (adsrAt env len rate) gain
 
 -- the frames from the note's start on; those that the note does not reach stay
 unfoldable pub mixed : List Float → Adsr → ℕ → ℕ → Float → List Float → List Float

@@ -1,6 +1,6 @@
 mod Leading
 mod Pack
 mod Narrowing
-mod Normal
+pub mod Normal
 mod RootLaw
 mod RootCases

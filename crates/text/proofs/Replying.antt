@@ -1,54 +1,41 @@
--- A listing that was printed on a page, and the reply that it is copied to. Assumes nothing.
-use Prim.Native.Nat.{ℕ, _+_, _≤_, _<_}
-use mathlib.Core.Path.{_≡_, refl, sym, ap, _∙_}
-use mathlib.Core.List.{List, _++_}
+-- Use for a text that is printed to a reply where it fits, and for what a reply says. Assumes nothing.
+use Prim.Native.Nat.{ℕ, _≤_, _<_}
+use mathlib.Core.Path.{_≡_, refl, ap, _∙_}
+use mathlib.Core.List.{List}
 use mathlib.Core.Bool.{Bool, true, false, cond}
 use native.Mathlib.Omega.{arith}
 use native.Mathlib.Nat.{zero-add}
 use borrow.Author.Tests.{lt-ltb, le-ltb, ltb-false}
-use lib.Dec.{ltb}
-use lib.ListN.{length, take, drop}
+use lib.ListN.{length}
 use Rattle.laws.proofs.If.{if-true, if-false}
-use Rattle.text_listing.specs.Printed.{Printed}
-use Rattle.text_listing.proofs.Put.{printed-text}
+use Rattle.text_listing.specs.Printed.{Room, Printed}
+use Rattle.text_listing.proofs.Put.{printed-whole}
 use Rattle.text.specs.Listing.{listing}
-use Rattle.text.specs.Reply.{tooShort, replyOf, bytesAfter, Replied}
+use Rattle.text.specs.Reply.{tooShort, replyOf, bytesAfter, Replied, Fitted}
 use Rattle.text.specs.declared.call.Reply.{Reply}
 use Rattle.text.specs.declared.call.Reply.the-variants.{Listing, Short}
 
-module _ (text reply₀ : List ℕ) {page₀ page : List ℕ} {n : ℕ} (p : Printed (listing text) 0 page₀ n page) where
-  size : n ≡ length (listing text)
-  size = p .after ∙ zero-add (length (listing text))
+-- a text l of n bytes does not fit, or it does and is printed
+module _ {l reply₀ : List ℕ} {n : ℕ} (size : n ≡ length l) where
+  pub fitted-short : length reply₀ < n → Fitted l reply₀ Short reply₀
+  fitted-short h = let t = lt-ltb _ _ (rw size at h) in record { answer = if-true _ t refl; bytes = if-true _ t refl }
 
-  -- w bytes are written: all, or none where they do not fit
-  module _ {w : ℕ} {reply : List ℕ} (some : w ≡ cond (ltb (length reply₀) n) 0 n) (e : reply ≡ take w page ++ drop w reply₀) where
-    pub replied-short : length reply₀ < n → Replied text reply₀ Short reply
-    unfolding replyOf bytesAfter
-    replied-short h =
-        let none : w ≡ 0 = some ∙ sym (if-true n (lt-ltb _ _ h) refl) in
-        let t = lt-ltb _ _ (rw size at h) in
-        record { answer = if-true _ t refl; bytes = if-true _ t (rw none at e) }
+  module _ (h : n ≤ length reply₀) where
+    pub fitted-room : Room l 0 reply₀
+    fitted-room = record { fits = omega arith }
 
-    pub replied-whole : n ≤ length reply₀ → Replied text reply₀ (Listing n) reply
-    unfolding replyOf bytesAfter
-    replied-whole h =
-        let all : w ≡ n = some ∙ sym (if-false 0 (le-ltb _ _ h) refl) in
-        let t = le-ltb _ _ (rw size at h) in record {
-          answer = if-false _ t (ap Listing size);
-          bytes = if-false _ t ((rw all at e) ∙ (λ j. printed-text p j ++ drop (size j) reply₀));
-        }
+    pub fitted-whole : {m : ℕ} {reply : List ℕ} → Printed l 0 reply₀ m reply → Fitted l reply₀ (Listing m) reply
+    fitted-whole {m} p =
+        let t = le-ltb _ _ (rw size at h) in
+        let all : m ≡ length l = p .after ∙ zero-add (length l) in
+        record { answer = if-false _ t (ap Listing all); bytes = if-false _ t (rw all at (printed-whole p)) }
 
--- no more is written than there is, or than fits
-written-least : (b : Bool) (n m : ℕ) → (b ≡ false → n ≤ m) → cond b 0 n ≤ m
-written-least true n m h = omega arith
-written-least false n m h = h refl
+pub fitted-as : {s t reply₀ reply : List ℕ} {said : Reply} → s ≡ t → Fitted s reply₀ said reply → Fitted t reply₀ said reply
+fitted-as e h = rw e at h
 
-module _ {w : ℕ} (n m : ℕ) (some : w ≡ cond (ltb m n) 0 n) where
-  pub written-within : w ≤ m
-  written-within = rw some (written-least (ltb m n) n m (ltb-false m n))
-
-  pub written-most : (l : ℕ) → n ≤ l → w ≤ l
-  written-most l h = rw some (written-least (ltb m n) n l (λ _. h))
+pub replied-as : {l : List ℕ} {reply₀ reply : List ℕ} {said : Reply} (text : List ℕ) → l ≡ listing text → Fitted l reply₀ said reply → Replied text reply₀ said reply
+unfolding replyOf bytesAfter
+replied-as text e h = let f = fitted-as e h in record { answer = f .answer; bytes = f .bytes }
 
 -- ---- what a reply says
 listed-is : (b : Bool) (n m : ℕ) → Listing n ≡ cond b Short (Listing m) → (b ≡ false) × (n ≡ m)

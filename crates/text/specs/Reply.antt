@@ -27,6 +27,11 @@ pub record Replied (text reply₀ : List ℕ) (said : Reply) (reply : List ℕ) 
   pub answer : said ≡ replyOf text reply₀
   pub bytes : reply ≡ bytesAfter text reply₀
 
+-- The same of any text l that is printed: what the parts of the call promise of the listing that they print.
+pub record Fitted (l reply₀ : List ℕ) (said : Reply) (reply : List ℕ) : Type 0 where
+  pub answer : said ≡ cond (ltb (length reply₀) (length l)) Short (Listing (length l))
+  pub bytes : reply ≡ cond (ltb (length reply₀) (length l)) reply₀ (l ++ drop (length l) reply₀)
+
 -- What the C call returns for each answer: "the listing's length in bytes, or −23" (`negsuc 22`).
 abbrev pub returnOf : Reply → ℤ
 returnOf (Listing n) = pos n

@@ -22,10 +22,3 @@ pub(crate) fn words_buffer() -> [u32; 1280]
 {
     [0u32; 1280]
 }
-
-// A listing: at most 40 bytes for its G line and 16 for each of 2,048 F lines.
-pub(crate) fn page_buffer() -> [u8; 32808]
-    ensures { λ r. ⌜ 32808 ≡ length r ⌝ }
-{
-    [0u8; 32808]
-}

@@ -1,28 +1,27 @@
 // The score call of a text score.
 ghost use Prim.Native.Nat.{_≤_};
-ghost use lib.ListN.{length};
-ghost use Rattle.text_listing.specs.Printed.{Printed};
 ghost use Rattle.text.specs.Listing.{played};
-use crate::answer::print_answer;
+ghost use Rattle.text.specs.Reply.{Fitted};
+use crate::answer::reply_answer;
 use crate::buffers::frames_buffer;
 use crate::buffers::string_buffer;
+use crate::call::Reply;
 use score::Seq;
 use session::Session;
 use session::StationAnswer;
 
-// Plays n frames on station 0 of the session that `seed` and `draw` open, prints the listing at the start of
-// `page`, and gives its length.
+// Plays n frames on station 0 of the session that `seed` and `draw` open, and prints the listing at the
+// start of `reply`, where it fits.
 pub(crate) fn play_score(
     seq: Seq,
     notes: &[u32],
     n: usize,
     seed: u64,
     draw: u64,
-    page: &mut [u8],
-) -> usize
+    reply: &mut [u8],
+) -> Reply
     requires { ⌜ n ≤ 2048 ⌝ }
-    requires { ⌜ 32808 ≤ length (now page) ⌝ }
-    ensures { λ r. ⌜ Printed (played seq (now (notes .entry)) n seed draw) 0 (now (page .entry)) r (now (page .exit)) ⌝ }
+    ensures { λ r. ⌜ Fitted (played seq (now (notes .entry)) n seed draw) (now (reply .entry)) r (now (reply .exit)) ⌝ }
 {
     let lane = [0.0f32; 1];
     let mut frames = frames_buffer();
@@ -43,5 +42,5 @@ pub(crate) fn play_score(
     let after = answer.session;
     let station = after.station(0);
     let outcome = answer.outcome;
-    print_answer(page, StationAnswer { station, outcome }, &frames[..n])
+    reply_answer(reply, StationAnswer { station, outcome }, &frames[..n])
 }

@@ -6,7 +6,7 @@ use Prim.Native.String as string
 use mathlib.Core.Path.{_≡_, refl}
 use mathlib.Core.List.{List, [], _∷_, _++_}
 use lib.Ieee.{Float, nan, isNan, binary32, ofBits, toBits}
-use Rattle.text_listing.specs.Digits.{digitFor, hexText, decimalUpTo, decimalText}
+use Rattle.text_listing.specs.Digits.{digitFor, lastDigits, decimalUpTo, decimalText}
 use Rattle.text_listing.specs.Lines.{printedR, frameBits, patternLines, listingOf}
 
 abbrev bytes : String → List ℕ
@@ -26,5 +26,5 @@ pub prints :
     × (listingOf 0x9e3779b97f4a7c15 100200 (ofBits binary32 0 ∷ ofBits binary32 0x80000000 ∷ nan ∷ [])
     ≡ lines ("G\t9e3779b97f4a7c15\t100200\n" ∷ "F\t0\t00000000\n" ∷ "F\t1\t80000000\n" ∷ "F\t2\t7fc00000\n" ∷ []))
     × (printedR 15 ≡ bytes "R\t15\n")
-unfolding digitFor hexText decimalUpTo decimalText frameBits patternLines isNan ofBits toBits
+unfolding digitFor lastDigits decimalUpTo decimalText frameBits patternLines isNan ofBits toBits
 prints = (refl, refl, refl)

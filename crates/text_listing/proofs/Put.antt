@@ -1,4 +1,5 @@
--- Use in each printer: one byte, nothing, and one text after another (`room-first`, `room-next`, `printed-both`). `three` and `four` are a line of so many parts,
+-- Use in each printer: one byte, nothing, and one text after another (`room-first`, `room-next`, `printed-both`), also where the whole has a name of its own
+-- (`first-room`, `rest-room`, `printed-parts`). `three` and `four` are a line of so many parts,
 -- of which part k has room once the parts before it stand. Assumes nothing.
 use Prim.Native.Nat.{ℕ, _+_, _≤_, _<_}
 use mathlib.Core.Path.{_≡_, refl, sym, ap, _∙_}
@@ -65,6 +66,18 @@ module _ (a b : List ℕ) {at : ℕ} {out : List ℕ} (h : Room (a ++ b) at out)
           bytes = q .bytes ∙ rw (t, d) (simp append-assoc);
         }
 
+-- a text of two parts, by its name
+module _ (a b : List ℕ) {t : List ℕ} (e : a ++ b ≡ t) {at : ℕ} {out : List ℕ} (h : Room t at out) where
+  pub first-room : Room a at out
+  first-room = room-first a b (room-as e h)
+
+  module _ {n : ℕ} {out₁ : List ℕ} (p : Printed a at out n out₁) where
+    pub rest-room : Room b n out₁
+    rest-room = room-next a b (room-as e h) p
+
+    pub printed-parts : {m : ℕ} {out₂ : List ℕ} → Printed b n out₁ m out₂ → Printed t at out m out₂
+    printed-parts q = printed-as e (printed-both a b (room-as e h) p q)
+
 module _ (a b c : List ℕ) {at : ℕ} {out : List ℕ} (h : Room (a ++ (b ++ c)) at out) {n : ℕ} {out₁ : List ℕ} (p : Printed a at out n out₁) where
   pub second-room : Room b n out₁
   second-room = room-first b c (room-next a (b ++ c) h p)
@@ -90,13 +103,13 @@ module _ (a b c d : List ℕ) {at : ℕ} {out : List ℕ} (h : Room (a ++ (b ++ 
 
 -- for a caller: a text that was printed from the first byte on, and the bytes after it
 module _ {text : List ℕ} {out : List ℕ} {n : ℕ} {out₁ : List ℕ} (p : Printed text 0 out n out₁) where
-  whole : out₁ ≡ text ++ drop n out
+  pub printed-whole : out₁ ≡ text ++ drop n out
   unfolding put
-  whole = let e : n ≡ length text = p .after ∙ omega arith in p .bytes ∙ rw (e, zero-add)
+  printed-whole = let e : n ≡ length text = p .after ∙ omega arith in p .bytes ∙ rw (e, zero-add)
 
   pub printed-text : take n out₁ ≡ text
-  printed-text = rw whole (take-at text (drop n out) n (sym (p .after ∙ omega arith)))
+  printed-text = rw printed-whole (take-at text (drop n out) n (sym (p .after ∙ omega arith)))
 
   -- it fits on its page
   pub printed-fits : n ≤ length out₁
-  printed-fits = omega (arith, p .after, ap length whole, length-append text (drop n out))
+  printed-fits = omega (arith, p .after, ap length printed-whole, length-append text (drop n out))

@@ -8,10 +8,14 @@ use lib.Dec.{ltb}
 unfoldable pub digitFor : ℕ → ℕ
 digitFor v = cond (ltb v 10) (v + 48) (v + 87)
 
+-- the last k digits of v in a base
+unfoldable pub lastDigits : ℕ → ℕ → ℕ → List ℕ
+lastDigits base zero v = []
+lastDigits base (suc k) v = lastDigits base k (v / base) ++ (digitFor (v % base) ∷ [])
+
 -- the last k hexadecimal digits of v
-unfoldable pub hexText : ℕ → ℕ → List ℕ
-hexText zero v = []
-hexText (suc k) v = hexText k (v / 16) ++ (digitFor (v % 16) ∷ [])
+abbrev pub hexText : ℕ → ℕ → List ℕ
+hexText k v = lastDigits 16 k v
 
 -- at most so many decimal digits of v
 unfoldable pub decimalUpTo : ℕ → ℕ → List ℕ

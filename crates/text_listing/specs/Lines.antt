@@ -1,5 +1,6 @@
 -- The lines that are printed: "Lines end in a newline, fields are parted by tabs".
 use Prim.Native.Nat.{ℕ, zero, suc}
+use mathlib.Core.Path.{_≡_}
 use mathlib.Core.List.{List, [], _∷_, _++_}
 use mathlib.Core.Bool.{cond}
 use lib.ListN.{length, getD}
@@ -45,3 +46,10 @@ linesOf bits = patternLines (length bits) (λ i. getD bits i 0)
 -- what an accepted score prints: "G with the end state and draw count, then one F line a frame"
 abbrev pub listingOf : ℕ → ℕ → List Float → List ℕ
 listingOf state draw frames = printedG state draw ++ frameLines (length frames) frames
+
+-- the length of the lines of n frames, whatever they hold, and of a listing of n frames after `draw` draws
+pub record LinesLength (n r : ℕ) : Type 0 where
+  pub is : (bits : ℕ → ℕ) → r ≡ length (patternLines n bits)
+
+pub record ListingLength (draw n r : ℕ) : Type 0 where
+  pub is : (state : ℕ) (frames : List Float) → length frames ≡ n → r ≡ length (listingOf state draw frames)

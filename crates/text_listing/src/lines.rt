@@ -1,12 +1,12 @@
 // The lines G, F and R, and the listing.
 ghost use mathlib.Core.Path.{_≡_};
-ghost use Prim.Native.Nat.{_≤_};
 ghost use lib.ListN.{length};
 ghost use Rattle.text_listing.specs.Lines.{printedG, printedF, printedR, frameBits, frameLines, linesOf, listingOf};
 ghost use Rattle.text_listing.specs.Printed.{Room, Printed, FramesRoom};
 use crate::digits::put_byte;
 use crate::digits::put_decimal_field;
-use crate::digits::put_hex_field;
+use crate::digits::put_hex_8_field;
+use crate::digits::put_hex_16_field;
 
 // The generator's end state and the draw count.
 fn put_opening(out: &mut [u8], at: usize, state: u64, draw: u64) -> usize
@@ -14,7 +14,7 @@ fn put_opening(out: &mut [u8], at: usize, state: u64, draw: u64) -> usize
     ensures { λ r. ⌜ Printed (printedG state draw) at (now (out .entry)) r (now (out .exit)) ⌝ }
 {
     let first = put_byte(out, at, b'G');
-    let second = put_hex_field(out, first, 16, state);
+    let second = put_hex_16_field(out, first, state);
     let last = put_decimal_field(out, second, draw);
     put_byte(out, last, b'\n')
 }
@@ -26,7 +26,7 @@ fn put_frame(out: &mut [u8], at: usize, index: usize, bits: u32) -> usize
 {
     let first = put_byte(out, at, b'F');
     let second = put_decimal_field(out, first, index as u64);
-    let last = put_hex_field(out, second, 8, bits as u64);
+    let last = put_hex_8_field(out, second, bits as u64);
     put_byte(out, last, b'\n')
 }
 
@@ -42,7 +42,7 @@ pub fn frame_bits(x: f32) -> u32
 
 // The lines of all frames.
 fn put_frames(out: &mut [u8], start: usize, frames: &[f32]) -> usize
-    requires { ⌜ FramesRoom (length (now frames)) start (length (now out)) ⌝ }
+    requires { ⌜ Room (frameLines (length (now frames)) (now frames)) start (now out) ⌝ }
     ensures { λ r. ⌜ Printed (frameLines (length (now (frames .entry))) (now (frames .entry))) start (now (out .entry)) r (now (out .exit)) ⌝ }
 {
     let mut at = start;
@@ -70,7 +70,7 @@ pub fn put_lines(out: &mut [u8], bits: &[u32]) -> usize
 
 // The listing of an accepted score, from the first byte on.
 pub fn put_listing(out: &mut [u8], state: u64, draw: u64, frames: &[f32]) -> usize
-    requires { ⌜ FramesRoom (length (now frames)) 40 (length (now out)) ⌝ }
+    requires { ⌜ Room (listingOf state draw (now frames)) 0 (now out) ⌝ }
     ensures { λ r. ⌜ Printed (listingOf state draw (now (frames .entry))) 0 (now (out .entry)) r (now (out .exit)) ⌝ }
 {
     let first = put_opening(out, 0, state, draw);
@@ -79,7 +79,7 @@ pub fn put_listing(out: &mut [u8], state: u64, draw: u64, frames: &[f32]) -> usi
 
 // The line of a refused score, from the first byte on.
 pub fn put_refusal(out: &mut [u8], number: u32) -> usize
-    requires { ⌜ 13 ≤ length (now out) ⌝ }
+    requires { ⌜ Room (printedR number) 0 (now out) ⌝ }
     ensures { λ r. ⌜ Printed (printedR number) 0 (now (out .entry)) r (now (out .exit)) ⌝ }
 {
     let first = put_byte(out, 0, b'R');

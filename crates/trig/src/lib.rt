@@ -6,6 +6,9 @@ mod sine; // sine.rt: sin, cos
 mod single; // single.rt: the f32 wrappers
 
 pub use sine::cos;
+pub use sine::cos_poly;
+pub use sine::less_turns;
 pub use sine::sin;
+pub use sine::sin_poly;
 pub use single::cosf;
 pub use single::sinf;

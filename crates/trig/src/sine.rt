@@ -40,7 +40,7 @@ const C5: f64 = 2.08757232129817482790e-09; // 3e21ee9ebdb4b1c4
 const C6: f64 = -1.13596475577881948265e-11; // bda8fae9be8838d4
 
 // sin(x) on [-π/4, π/4]: x + x³·S(x²).
-fn sin_poly(x: f64) -> f64
+pub fn sin_poly(x: f64) -> f64
     ensures { λ r. ⌜ r ≡ sinPoly x ⌝ }
 {
     let z = x * x;
@@ -48,7 +48,7 @@ fn sin_poly(x: f64) -> f64
 }
 
 // cos(x) on [-π/4, π/4]: 1 − x²/2 + x⁴·C(x²).
-fn cos_poly(x: f64) -> f64
+pub fn cos_poly(x: f64) -> f64
     ensures { λ r. ⌜ r ≡ cosPoly x ⌝ }
 {
     let z = x * x;
@@ -56,7 +56,7 @@ fn cos_poly(x: f64) -> f64
 }
 
 // x less k times 2π.
-fn less_turns(x: f64, k: f64) -> f64
+pub fn less_turns(x: f64, k: f64) -> f64
     ensures { λ r. ⌜ r ≡ lessTurns x k ⌝ }
 {
     ((x - k * PI2_HI) - k * PI2_MID) - k * PI2_LO

@@ -1,1 +1,2 @@
 pub mod Bass
+pub mod Filtered

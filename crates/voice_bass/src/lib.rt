@@ -2,10 +2,14 @@
 // a click and some drive, over a sine sub. Each number is a knob; nothing is drawn, so that the click
 // is the same in every note.
 ghost use mathlib.Core.Path.{_≡_};
-ghost use lib.ListN.{length};
+ghost use Prim.Native.Nat.{_+_, _-_, _≤_};
+ghost use lib.ListN.{length, getD};
+ghost use lib.Ieee.{nan};
+ghost use Rattle.blocks.proofs.Block.{Ran};
 ghost use Rattle.dsl.specs.Domain.{Frames};
 ghost use Rattle.dsl.specs.Pitch.{pitchAt, reaches};
-ghost use Rattle.voice_bass.specs.Bass.{cutoffAt, driveOf, bassAt, bassFrames};
+ghost use Rattle.voice_bass.specs.Bass.{driveOf, bassFrames};
+ghost use Rattle.voice_bass.specs.Filtered.{bassBy};
 use dsl::BassKnobs;
 use dsl::Reading;
 
@@ -21,16 +25,6 @@ struct BassOut {
     state: BassState,
 }
 
-// The cutoff in hertz at time t.
-fn cutoff_at(bass: BassKnobs, gain: f32, t: f32) -> f32
-    ensures { λ r. ⌜ r ≡ cutoffAt bass gain t ⌝ }
-{
-    let decay = float::max_f32(bass.bass_decay, 0.001);
-    bass.bass_cutoff
-        + (bass.bass_env + bass.bass_env_vel * gain) * dsp::exp(-t / decay)
-        + bass.bass_click * dsp::exp(-t / 0.008)
-}
-
 // From the filtered saw toward its saturation, as far as the drive says.
 fn drive(knob: f32, lp: f32) -> f32
     ensures { λ r. ⌜ r ≡ driveOf knob lp ⌝ }
@@ -39,18 +33,15 @@ fn drive(knob: f32, lp: f32) -> f32
     lp + drive * (dsp::tanh(lp * (1.0 + 2.0 * drive)) - lp)
 }
 
-fn bass_at(fi: f32, bass: BassKnobs, gain: f32, srf: f32, i: usize, s: BassState) -> BassOut
-    requires { ⌜ Frames i ⌝ }
-    ensures { λ r. ⌜ r ≡ bassAt fi bass gain srf i s ⌝ }
+// A frame, its filter opened by a and its level faded by e.
+fn bass_by(a: f32, e: f32, fi: f32, bass: BassKnobs, srf: f32, s: BassState) -> BassOut
+    ensures { λ r. ⌜ r ≡ bassBy (record { opening = a; fade = e }) fi bass srf s ⌝ }
 {
-    let body_decay = float::max_f32(bass.bass_body_decay, 0.001);
     let dt = osc::phase_step(fi, srf);
-    let t = osc::frame_time(i, srf);
-    let a = 1.0 - dsp::exp(-dsp::TAU * cutoff_at(bass, gain, t) / srf);
     let lp = s.lp + a * (osc::saw(s.phase, dt) - s.lp);
     let body = drive(bass.bass_drive, lp);
     let sine = dsp::sin(dsp::TAU * s.sub);
-    let sample = (bass.bass_body * body + bass.bass_sub * sine) * dsp::exp(-t / body_decay);
+    let sample = (bass.bass_body * body + bass.bass_sub * sine) * e;
     let phase = osc::wrap(s.phase + dt);
     let sub = osc::wrap(s.sub + dt * bass.bass_sub_ratio);
     BassOut {
@@ -59,6 +50,37 @@ fn bass_at(fi: f32, bass: BassKnobs, gain: f32, srf: f32, i: usize, s: BassState
     }
 }
 
+// The frames of a block, whose openings are a and whose fades are e, from the state before it; hands back the state
+// after it.
+fn bass_block(
+    a: &[f32; 64],
+    e: &[f32; 64],
+    pitch: Reading,
+    lane: &[f32],
+    bass: BassKnobs,
+    srf: f32,
+    from: usize,
+    end: usize,
+    start: BassState,
+    out: &mut [f32],
+) -> BassState
+    requires { ⌜ (from ≤ end) × (end ≤ from + 64) × (end ≤ length (now out)) ⌝ }
+    requires { ⌜ reaches pitch (length (now lane)) end ⌝ }
+    ensures { λ r. ⌜ Ran (λ x i. bassBy x (pitchAt pitch (now (lane .entry)) i) bass srf) (λ o. o .sample) (λ o. o .state)
+        (λ i. record { opening = getD (now (a .entry)) (i - from) nan; fade = getD (now (e .entry)) (i - from) nan }) from end (now (out .entry)) start end (now (out .exit)) r ⌝ }
+{
+    let mut s = start;
+    let mut i = from;
+    while i < end {
+        let r = bass_by(a[i - from], e[i - from], pitch.at(lane, i), bass, srf, s);
+        out[i] = r.sample;
+        s = r.state;
+        i += 1;
+    }
+    s
+}
+
+// In blocks of 64 frames: the openings and the fades first, and then the frames.
 pub fn bass_note(
     pitch: Reading,
     lane: &[f32],
@@ -71,16 +93,20 @@ pub fn bass_note(
     requires { ⌜ Frames (length (now out)) ⌝ }
     ensures { λ _. ⌜ now (out .exit) ≡ bassFrames (pitchAt pitch (now (lane .entry))) bass gain srf (length (now (out .entry))) ⌝ }
 {
+    let body_decay = float::max_f32(bass.bass_body_decay, 0.001);
     let mut s = BassState {
         phase: 0.0,
         sub: 0.0,
         lp: 0.0,
     };
+    let mut a = [0.0f32; 64];
+    let mut e = [0.0f32; 64];
     let mut i = 0usize;
     while i < out.len() {
-        let r = bass_at(pitch.at(lane, i), bass, gain, srf, i, s);
-        out[i] = r.sample;
-        s = r.state;
-        i += 1;
+        let end = frame_block::block_end(i, out.len());
+        bass_opening::openings(bass, gain, srf, i, end, &mut a);
+        frame_block::decays_before(srf, body_decay, i, end, &mut e);
+        s = bass_block(&a, &e, pitch, lane, bass, srf, i, end, s, out);
+        i = end;
     }
 }

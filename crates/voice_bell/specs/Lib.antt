@@ -1,1 +1,2 @@
 pub mod Bell
+pub mod Mixed

@@ -1,25 +1,30 @@
 // The struck bell: five partials that are no multiples of each other, of which the high ones die
 // first, and a twin of the lowest, 0.1 percent sharp, whose slow beating is the shimmer.
+mod block; // block.rt: the bell in blocks of 64 frames
+
 ghost use mathlib.Core.Path.{_≡_};
+ghost use Prim.Native.Nat.{_≤_};
 ghost use lib.ListN.{length};
+ghost use Rattle.blocks.proofs.Carried.{Carried};
 ghost use Rattle.dsl.specs.Domain.{Frames};
 ghost use Rattle.dsl.specs.Pitch.{pitchAt, reaches};
 ghost use Rattle.voice_bell.specs.Bell.{bellPartial, bellSum, bellNext, bellAt, bellFrames};
+use crate::block::bell_blocks;
 use dsl::Reading;
 
 // The phases of the five partials and of the twin.
-struct BellState {
-    ph0: f32,
-    ph1: f32,
-    ph2: f32,
-    ph3: f32,
-    ph4: f32,
-    twin: f32,
+pub struct BellState {
+    pub ph0: f32,
+    pub ph1: f32,
+    pub ph2: f32,
+    pub ph3: f32,
+    pub ph4: f32,
+    pub twin: f32,
 }
 
-struct BellOut {
-    sample: f32,
-    state: BellState,
+pub struct BellOut {
+    pub sample: f32,
+    pub state: BellState,
 }
 
 // A partial of a gain and a decay in seconds, at time t.
@@ -43,7 +48,7 @@ fn bell_sum(s: BellState, t: f32) -> f32
 }
 
 // The phases before the next frame.
-fn bell_next(s: BellState, dt: f32) -> BellState
+pub fn bell_next(s: BellState, dt: f32) -> BellState
     ensures { λ r. ⌜ r ≡ bellNext s dt ⌝ }
 {
     BellState {
@@ -68,12 +73,39 @@ fn bell_at(fi: f32, srf: f32, i: usize, s: BellState) -> BellOut
     BellOut { sample, state }
 }
 
+// The frames from `from` on, one by one.
+fn bell_rest(
+    pitch: Reading,
+    lane: &[f32],
+    srf: f32,
+    from: usize,
+    start: BellState,
+    out: &mut [f32],
+) -> BellState
+    requires { ⌜ from ≤ length (now out) ⌝ }
+    requires { ⌜ reaches pitch (length (now lane)) (length (now out)) ⌝ }
+    requires { ⌜ Frames (length (now out)) ⌝ }
+    ensures { λ r. ⌜ Carried (λ i. bellAt (pitchAt pitch (now (lane .entry)) i) srf i) (λ o. o .sample) (λ o. o .state)
+        from (length (now (out .entry))) (now (out .entry)) start (now (out .exit)) r ⌝ }
+{
+    let mut s = start;
+    let mut i = from;
+    while i < out.len() {
+        let r = bell_at(pitch.at(lane, i), srf, i, s);
+        out[i] = r.sample;
+        s = r.state;
+        i += 1;
+    }
+    s
+}
+
+// In blocks of 64 frames, and the last few one by one.
 pub fn bell_note(pitch: Reading, lane: &[f32], srf: f32, out: &mut [f32])
     requires { ⌜ reaches pitch (length (now lane)) (length (now out)) ⌝ }
     requires { ⌜ Frames (length (now out)) ⌝ }
     ensures { λ _. ⌜ now (out .exit) ≡ bellFrames (pitchAt pitch (now (lane .entry))) srf (length (now (out .entry))) ⌝ }
 {
-    let mut s = BellState {
+    let start = BellState {
         ph0: 0.0,
         ph1: 0.0,
         ph2: 0.0,
@@ -81,11 +113,7 @@ pub fn bell_note(pitch: Reading, lane: &[f32], srf: f32, out: &mut [f32])
         ph4: 0.0,
         twin: 0.0,
     };
-    let mut i = 0usize;
-    while i < out.len() {
-        let r = bell_at(pitch.at(lane, i), srf, i, s);
-        out[i] = r.sample;
-        s = r.state;
-        i += 1;
-    }
+    let whole = frame_block::whole_blocks(out.len());
+    let s = bell_blocks(pitch, lane, srf, whole, start, out);
+    bell_rest(pitch, lane, srf, whole, s, out);
 }

@@ -1,8 +1,8 @@
 // Brass: two saws, detuned by 0.4 percent down and up, through a lowpass whose cutoff swells from 800
 // to 2,200 hertz over the first 70 ms, the blat of a horn's attack. A louder note opens it further.
 ghost use mathlib.Core.Path.{_≡_};
-ghost use Prim.Native.Nat.{_+_, _≤_, _<_};
-ghost use lib.ListN.{length};
+ghost use Prim.Native.Nat.{_+_, _-_, _≤_, _<_};
+ghost use lib.ListN.{length, getD};
 ghost use lib.Ieee.{nan};
 ghost use Rattle.blocks.proofs.Block.{Ran};
 ghost use Rattle.dsl.specs.Domain.{Frames};
@@ -53,8 +53,8 @@ fn brass_block(
 ) -> BrassState
     requires { ⌜ (from ≤ end) × (end ≤ from + 64) × (end ≤ length (now out)) ⌝ }
     requires { ⌜ reaches pitch (length (now lane)) end ⌝ }
-    ensures { λ r. ⌜ Ran (λ x i. brassBy x (pitchAt pitch (now (lane .entry)) i) srf) (λ o. o .sample) (λ o. o .state) nan
-        (now (a .entry)) from end (now (out .entry)) start end (now (out .exit)) r ⌝ }
+    ensures { λ r. ⌜ Ran (λ x i. brassBy x (pitchAt pitch (now (lane .entry)) i) srf) (λ o. o .sample) (λ o. o .state)
+        (λ i. getD (now (a .entry)) (i - from) nan) from end (now (out .entry)) start end (now (out .exit)) r ⌝ }
 {
     let mut s = start;
     let mut i = from;
@@ -65,13 +65,6 @@ fn brass_block(
         i += 1;
     }
     s
-}
-
-fn block_end(i: usize, n: usize) -> usize
-    requires { ⌜ i < n ⌝ }
-    ensures { λ r. ⌜ (i < r) × (r ≤ n) × (r ≤ i + 64) ⌝ }
-{
-    if n - i <= 64 { n } else { i + 64 }
 }
 
 // In blocks of 64 frames: the openings first, and then the frames that they filter.
@@ -88,7 +81,7 @@ pub fn brass_note(pitch: Reading, lane: &[f32], gain: f32, srf: f32, out: &mut [
     let mut a = [0.0f32; 64];
     let mut i = 0usize;
     while i < out.len() {
-        let end = block_end(i, out.len());
+        let end = frame_block::block_end(i, out.len());
         brass_opening::openings(gain, srf, i, end, &mut a);
         s = brass_block(&a, pitch, lane, srf, i, end, s, out);
         i = end;

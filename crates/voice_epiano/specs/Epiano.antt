@@ -59,6 +59,10 @@ epianoAt fi gain srf decay i s =
 abbrev pub epianoStart : EpianoState
 epianoStart = record { cph = c0; mph = c0; tph = c0 }
 
+-- the frames by the time constant
+abbrev pub epianoSound : (ℕ → Float) → Float → Float → Float → ℕ → List Float
+epianoSound f gain srf decay n = samples (λ i. epianoAt (f i) gain srf decay i) (λ r. r .sample) (λ r. r .state) epianoStart n
+
 -- with n = 0 there are no frames, whatever `f 0` is
 unfoldable pub epianoFrames : (ℕ → Float) → Float → Float → ℕ → List Float
-epianoFrames f gain srf n = samples (λ i. epianoAt (f i) gain srf (epianoDecay (f 0)) i) (λ r. r .sample) (λ r. r .state) epianoStart n
+epianoFrames f gain srf n = epianoSound f gain srf (epianoDecay (f 0)) n

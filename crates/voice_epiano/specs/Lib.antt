@@ -1,1 +1,2 @@
 pub mod Epiano
+pub mod Faded

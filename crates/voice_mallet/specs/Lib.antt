@@ -1,1 +1,2 @@
 pub mod Mallet
+pub mod Mixed

@@ -1,2 +1,3 @@
 mod Built
 mod Sound
+mod Sines

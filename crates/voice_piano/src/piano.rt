@@ -48,7 +48,7 @@ fn thump(t: f32, rng: Rng) -> DrawF32
     DrawF32 { value: 0.0, rng }
 }
 
-// A frame at the pitch `fi`, of the first `count` partials.
+// A frame at the pitch `fi`, of the first `count` partials. The arrays are lent for their sines.
 fn piano_at(
     fi: f32,
     srf: f32,
@@ -57,15 +57,22 @@ fn piano_at(
     norm: f32,
     i: usize,
     s: PianoState,
+    x: &mut [f32; 384],
+    near: &mut [f64; 384],
+    q: &mut [f64; 384],
+    wide: &mut [f64; 384],
+    sines: &mut [f32; 384],
 ) -> PianoOut
     requires { ⌜ Frames i ⌝ }
     requires { ⌜ count ≤ 18 ⌝ }
+    requires { ⌜ (length (now x) ≡ 384) × (length (now near) ≡ 384) × (length (now q) ≡ 384) × (length (now wide) ≡ 384) × (length (now sines) ≡ 384) ⌝ }
+    ensures { λ _. ⌜ (length (now (x .exit)) ≡ 384) × (length (now (near .exit)) ≡ 384) × (length (now (q .exit)) ≡ 384) × (length (now (wide .exit)) ≡ 384) × (length (now (sines .exit)) ≡ 384) ⌝ }
     ensures { λ r. ⌜ r .sample ≡ pianoAt fi srf det norm i (heard count s) .sample ⌝ }
     ensures { λ r. ⌜ heard count (r .state) ≡ pianoAt fi srf det norm i (heard count s) .state ⌝ }
 {
     let dt = osc::phase_step(fi, srf);
     let items = s.items;
-    let w = wires_at(items, count, dt, det);
+    let w = wires_at(items, count, dt, det, x, near, q, wide, sines);
     let rng = s.rng;
     let d = thump(osc::frame_time(i, srf), rng);
     let items = w.items;
@@ -94,10 +101,28 @@ fn sound_piano(
     ensures { λ _. ⌜ now (out .exit) ≡ soundFrames (pitchAt pitch (now (lane .entry))) srf det norm (heard count start) (length (now (out .entry))) ⌝ }
     ensures { λ r. ⌜ r .0 ≡ stateAfter (start .rng .0) (passing (λ i. thumps (seconds srf i)) (length (now (out .entry)))) ⌝ }
 {
+    let mut x = [0.0f32; 384];
+    let mut near = [0.0f64; 384];
+    let mut q = [0.0f64; 384];
+    let mut wide = [0.0f64; 384];
+    let mut sines = [0.0f32; 384];
     let mut s = start;
     let mut i = 0usize;
     while i < out.len() {
-        let r = piano_at(pitch.at(lane, i), srf, count, det, norm, i, s);
+        let r = piano_at(
+            pitch.at(lane, i),
+            srf,
+            count,
+            det,
+            norm,
+            i,
+            s,
+            &mut x,
+            &mut near,
+            &mut q,
+            &mut wide,
+            &mut sines,
+        );
         out[i] = r.sample;
         s = r.state;
         i += 1;

@@ -1,3 +1,4 @@
 pub mod Plain
 pub mod Pulse
 pub mod Fm
+pub mod Bent

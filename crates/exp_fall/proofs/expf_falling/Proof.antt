@@ -3,7 +3,7 @@ use mathlib.Core.Path.{_≡_, ap, sym, _∙_, subst}
 use Prim.Native.Nat.{ℕ, _+_}
 use native.Mathlib.Omega.{arith}
 use denote.Floats.{passes}
-use lib.Ieee.{Float, binary64, ofBits, toBits}
+use lib.Ieee.{binary64, ofBits, toBits}
 use lib.Ieee.Bits.{ofBits-toBits}
 use Rattle.ieee.specs.Narrow.{narrowOf}
 use Rattle.exp_fall.proofs.Falls.{Normal, falling-low, falling-reduced, falling-normal}
@@ -26,7 +26,8 @@ returns : tie.Need-returns
 returns c =
     let y = c .before .exp-low in
     c .narrow-normal .ensures
-    ∙ ap narrowOf (ap (ofBits binary64) (plain (toBits binary64 (y .result))) ∙ ofBits-toBits binary64 (y .result) (passes _ (y .ok)) ∙ y .ensures ∙ falling-reduced (c .before .before .args .x) (c .before .before .pre))
+    ∙ ap narrowOf (ap (ofBits binary64) (plain (toBits binary64 (y .result))) ∙ ofBits-toBits binary64 (y .result) (passes _ (y .ok))
+    ∙ y .ensures ∙ falling-reduced (c .before .before .args .x) (c .before .before .pre))
 
 pub expf-falling-spec : {M : Type 1} → statement M
 expf-falling-spec = tie.close (tie.spec exp-low-requires float-to-bits-narrow-normal narrow-normal-requires returns)

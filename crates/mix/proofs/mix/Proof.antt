@@ -1,68 +1,53 @@
--- `mix::mix` meets its contract: the loop changes `out` by the law `Updated`. Assumes nothing.
-use Prim.Native.Nat.{_-_, _≤_}
+-- `mix::mix` meets its contract: the four loops' stretches are the law `staged`. Assumes nothing.
+use mathlib.Core.Path.{refl}
 use native.Mathlib.Omega.{arith}
+use Rattle.mix.proofs.Staged.{staged}
 use borrow.Author.Needs.{needs}
-use lib.ListN.{length}
-use lib.Ieee.{nan}
-use Rattle.laws.proofs.Update.{Updated, updated-none, updated-more, updated-kept, updated-all}
-use Rattle.envelope.specs.Envelope.{adsrAt}
-use Rattle.mix.specs.Mix.{gained, mixed}
 use Rattle.mix.proofs.mix.Statement.{statement}
 use Rattle.mix.proofs.mix.Tie as tie
 
-abbrev Inv-loop : tie.InvT-loop
-Inv-loop out₀ note env len rate gain srf rel-start i₀ out i = Updated (gained note env len rate gain) out₀ i out × i ≤ length note
+mix-release-requires : tie.Need-mix-release-requires
+mix-release-requires c κs =
+    let b7 = c .before .before .before .before .before .before .before in
+    let b11 = c .before .before .before .before .before .before .before .before .before .before .before in
+    let b13 = c .before .before .before .before .before .before .before .before .before .before .before .before .before in
+    let b20 = c .before .before .before .before .before .before .before .before .before .before .before .before .before .before .before .before .before .before .before .before in
+    (b13 .stage-end3 .ensures .most, (omega (arith, b20 .pre .1 .0, c .before .before .before .mix-sustain .kept .0, b7 .mix-decay .kept .0, b11 .mix-attack .kept .0), b20 .pre .1 .1 .0))
 
-abbrev μ-loop : tie.MeasureT-loop
-μ-loop out₀ note env len rate gain srf rel-start i₀ out i = length note - i
-
-loop-holds : tie.Need-loop-holds Inv-loop μ-loop
-loop-holds c = (updated-none, omega arith)
-
-slice-read-out : tie.Need-slice-read-out Inv-loop μ-loop
-slice-read-out c = omega (arith, updated-kept (c .before .before .before .before .loop .inv .0))
-
-slice-write-out : tie.Need-slice-write-out Inv-loop μ-loop
-slice-write-out c = omega (arith, updated-kept (c .before .before .before .before .before .loop .inv .0))
-
-loop-again : tie.Need-loop-again Inv-loop μ-loop
-unfolding adsrAt
-loop-again c = (
-  updated-more (c .before .before .before .before .before .loop .inv .0) nan (rw (
-    c .before .before .adsr-env .ensures,
-    c .before .before .before .frame-time .ensures,
-    c .before .before .before .before .before .before .release-start .ensures,
-    c .before .before .before .before .before .before .before .nearest-u32-to-f32 .ensures,
-  )),
-  omega arith,
-)
-
-same-length : tie.Need-same-length Inv-loop μ-loop
-same-length c = updated-kept (c .before .loop .inv .0)
-
-returns : tie.Need-returns Inv-loop μ-loop
-unfolding mixed
-returns c = updated-all (c .before .loop .inv .0) (omega arith)
+returns : tie.Need-returns
+returns c =
+    let b6 = c .before .before .before .before .before .before in
+    let b10 = c .before .before .before .before .before .before .before .before .before .before in
+    let b14 = c .before .before .before .before .before .before .before .before .before .before .before .before .before .before in
+    let b16 = c .before .before .before .before .before .before .before .before .before .before .before .before .before .before .before .before in
+    let b17 = c .before .before .before .before .before .before .before .before .before .before .before .before .before .before .before .before .before in
+    let b19 = c .before .before .before .before .before .before .before .before .before .before .before .before .before .before .before .before .before .before .before in
+    let b20 = c .before .before .before .before .before .before .before .before .before .before .before .before .before .before .before .before .before .before .before .before in
+    let b12 = c .before .before .before .before .before .before .before .before .before .before .before .before in
+    let b23 = b12 .before .before .before .before .before .before .before .before .before .before .before in
+    let note = b23 .args .note .now in
+    staged note (b23 .args .env) (b23 .args .len) (b23 .args .rate) (b23 .args .gain)
+    (b19 .stage-end .ensures)
+    (b17 .stage-end2 .ensures)
+    (rw (b20 .release-start .ensures) at (b16 .stage-end3 .ensures))
+    (b14 .mix-attack .ensures)
+    (b10 .mix-decay .ensures)
+    (b6 .mix-sustain .ensures)
+    (rw (b20 .release-start .ensures) at (c .before .before .mix-release .ensures))
+    refl
+    (b23 .pre .1 .0)
 
 pub mix-spec : {M : Type 1} → statement M
 mix-spec =
     tie.close
     (tie.spec
-    Inv-loop
-    μ-loop
     (λ c κs. search needs)
     (λ c κs. search needs)
-    loop-holds
     (λ c κs. search needs)
     (λ c κs. search needs)
+    (λ c κs. search needs)
+    (λ c κs. search needs)
+    (λ c κs. search needs)
+    mix-release-requires
     (λ c. search needs)
-    slice-read-out
-    (λ c. search needs)
-    (λ c. search needs)
-    (λ c. search needs)
-    slice-write-out
-    (λ c. search needs)
-    (λ c. omega arith)
-    loop-again
-    same-length
     returns)

@@ -85,7 +85,7 @@ mix-at-requires c κs =
     let v = c .before .before .before .before .before .before .voice-note in
     let len : length (v .last .1 .1 .1 .1 .1 .1 .1 .1 .0) ≡ a .place .sounded = v .kept .1 .1 .1 .1 .1 .1 .1 .1 .0 ∙ length-take-le (a .place .sounded) (a .note-buf .now) fits in
     let e = ap length (take-at (v .last .1 .1 .1 .1 .1 .1 .1 .1 .0) (drop (a .place .sounded) (a .note-buf .now)) (a .place .sounded) len) ∙ len in
-    (rw e (p .1 .1 .1 .0), (record { most = omega (arith, e, p .1 .0 .most, p .1 .1 .1 .0) }, p .1 .1 .1 .1 .0))
+    (p .0, (rw e (p .1 .1 .1 .0), (record { most = omega (arith, e, p .1 .0 .most, p .1 .1 .1 .0) }, p .1 .1 .1 .1 .0)))
 
 returns : tie.Need-returns
 unfolding valueAt pitchAt

@@ -3,6 +3,7 @@ use Prim.Native.Nat.{_-_}
 use native.Mathlib.Omega.{arith}
 use borrow.Author.Needs.{needs}
 use lib.Ieee.{nan}
+use lib.ListN.{getD}
 use Rattle.blocks.proofs.Block.{Ran, ran-none, ran-more, ran-all}
 use Rattle.dsl.specs.Pitch.{pitchAt}
 use Rattle.dsl.proofs.Reach.{reaches-less}
@@ -11,7 +12,7 @@ use Rattle.voice_brass.proofs.brass_block.Statement.{statement}
 use Rattle.voice_brass.proofs.brass_block.Tie as tie
 
 abbrev Inv-loop : tie.InvT-loop
-Inv-loop a pitch lane srf from end out₀ s₀ i₀ out s i = Ran (λ x i. brassBy x (pitchAt pitch lane i) srf) (λ o. o .sample) (λ o. o .state) nan a from end out₀ s₀ i out s
+Inv-loop a pitch lane srf from end out₀ s₀ i₀ out s i = Ran (λ x i. brassBy x (pitchAt pitch lane i) srf) (λ o. o .sample) (λ o. o .state) (λ i. getD a (i - from) nan) from end out₀ s₀ i out s
 
 abbrev μ-loop : tie.MeasureT-loop
 μ-loop a pitch lane srf from end out₀ s₀ i₀ out s i = end - i

@@ -47,7 +47,7 @@ loop-again : tie.Need-loop-again Inv-loop μ-loop
 loop-again c =
     let p = c .before .before .before .before .before .before .before .before .before .before .before .before .args in
     let done = c .before .before .before .before .before .openings .ensures in
-    (done .0, c .before .before .brass-block .ensures .on (openingAt (p .gain) (p .srf)) _ _ (done .1) (c .before .before .before .before .before .before .before .before .before .loop .inv .1))
+    (done .0, c .before .before .brass-block .ensures .on (openingAt (p .gain) (p .srf)) _ _ (done .1 .at) (c .before .before .before .before .before .before .before .before .before .loop .inv .1))
 
 same-length : tie.Need-same-length Inv-loop μ-loop
 same-length c = filled-length (c .before .loop .inv .1)

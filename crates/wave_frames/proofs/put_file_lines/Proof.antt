@@ -3,11 +3,20 @@ use mathlib.Core.Path.{sym}
 use native.Mathlib.Omega.{arith}
 use lib.Seq.{length-take-le}
 use Rattle.text_listing.proofs.Put.{printed-as}
+use Rattle.text_listing.proofs.Listings.{refusal-room}
 use Rattle.wave_read.proofs.Ending.{samples-fit}
 use Rattle.wave_frames.proofs.Shown.{shown-long, shown-samples, shown-refusal, lines-room}
 use borrow.Author.Needs.{needs}
 use Rattle.wave_frames.proofs.put_file_lines.Statement.{statement}
 use Rattle.wave_frames.proofs.put_file_lines.Tie as tie
+
+put-refusal-requires : tie.Need-put-refusal-requires
+put-refusal-requires c κs = refusal-room 23 (omega arith) (omega (arith, c .before .before .before .before .before .pre .1))
+
+put-refusal-requires-2 : tie.Need-put-refusal-requires-2
+put-refusal-requires-2 c κs =
+    let b13 = c .before .before .before .before .before .before .before .before .before .before .before .before .before in
+    refusal-room (c .number .result) (omega arith) (omega (arith, b13 .pre .1))
 
 returns : tie.Need-returns
 returns c = printed-as (shown-long _ (c .before .before .before .before .if1 .taken)) (c .before .before .put-refusal .ensures)
@@ -50,7 +59,7 @@ pub put-file-lines-spec : {M : Type 1} → statement M
 put-file-lines-spec =
     tie.close
     (tie.spec
-    (λ c κs. search needs)
+    put-refusal-requires
     (λ c. search needs)
     returns
     (λ c κs. search needs)
@@ -60,7 +69,7 @@ put-file-lines-spec =
     put-lines-requires
     (λ c. search needs)
     (λ c κs. search needs)
-    (λ c κs. search needs)
+    put-refusal-requires-2
     (λ c. search needs)
     (λ c. search needs)
     returns-2

@@ -5,7 +5,7 @@ use mathlib.Core.List.{[]}
 use native.Mathlib.Omega.{arith}
 use lib.ListN.{length, drop, length-append}
 use lib.Seq.{length-take-le, take-at}
-use Rattle.text_listing.proofs.Put.{printed-as}
+use Rattle.text.proofs.Replying.{fitted-as}
 use Rattle.text.proofs.Shown.{played-by}
 use borrow.Author.Needs.{needs}
 use Rattle.text.proofs.play.play_score.Statement.{statement}
@@ -15,14 +15,14 @@ array-borrow-prefix-frames : tie.Need-array-borrow-prefix-frames
 array-borrow-prefix-frames c =
     let a = c .before .before .before .before .before .before .args in
     let l = c .before .before .before .frames-buffer .result in
-    let fits : a .n ≤ length l = omega (arith, c .before .before .before .frames-buffer .ensures, c .before .before .before .before .before .before .pre .0) in
+    let fits : a .n ≤ length l = omega (arith, c .before .before .before .frames-buffer .ensures, c .before .before .before .before .before .before .pre) in
     fits
 
 slice-aggregate-out : tie.Need-slice-aggregate-out
 slice-aggregate-out c =
     let a = c .before .before .before .before .before .before .before .args in
     let l = c .before .before .before .before .frames-buffer .result in
-    let fits : a .n ≤ length l = omega (arith, c .before .before .before .before .frames-buffer .ensures, c .before .before .before .before .before .before .before .pre .0) in
+    let fits : a .n ≤ length l = omega (arith, c .before .before .before .before .frames-buffer .ensures, c .before .before .before .before .before .before .before .pre) in
     sym (length-take-le (a .n) l fits)
 
 array-share-prefix-frames : tie.Need-array-share-prefix-frames
@@ -32,35 +32,35 @@ array-share-prefix-frames c =
     let b17 = c .before .before .before .before .before .before .before .before .before .before .before .before .before .before .before .before .before in
     let a = b17 .args in
     let l = b14 .frames-buffer .result in
-    let fits : a .n ≤ length l = omega (arith, b14 .frames-buffer .ensures, b17 .pre .0) in
+    let fits : a .n ≤ length l = omega (arith, b14 .frames-buffer .ensures, b17 .pre) in
     let v = b6 .render-seq in
     let len : length (v .last .1 .1 .1 .1 .1 .0) ≡ a .n = v .kept .1 .1 .1 .1 .1 .0 ∙ length-take-le (a .n) l fits in
     omega (arith, len, length-append (v .last .1 .1 .1 .1 .1 .0) (drop (a .n) l))
 
-slice-aggregate-print-answer : tie.Need-slice-aggregate-print-answer
-slice-aggregate-print-answer c =
+slice-aggregate-reply-answer : tie.Need-slice-aggregate-reply-answer
+slice-aggregate-reply-answer c =
     let b7 = c .before .before .before .before .before .before .before in
     let b15 = c .before .before .before .before .before .before .before .before .before .before .before .before .before .before .before in
     let b18 = c .before .before .before .before .before .before .before .before .before .before .before .before .before .before .before .before .before .before in
     let a = b18 .args in
     let l = b15 .frames-buffer .result in
-    let fits : a .n ≤ length l = omega (arith, b15 .frames-buffer .ensures, b18 .pre .0) in
+    let fits : a .n ≤ length l = omega (arith, b15 .frames-buffer .ensures, b18 .pre) in
     let v = b7 .render-seq in
     let len : length (v .last .1 .1 .1 .1 .1 .0) ≡ a .n = v .kept .1 .1 .1 .1 .1 .0 ∙ length-take-le (a .n) l fits in
     sym (ap length (take-at (v .last .1 .1 .1 .1 .1 .0) (drop (a .n) l) (a .n) len) ∙ len)
 
-print-answer-requires : tie.Need-print-answer-requires
-print-answer-requires c κs =
+reply-answer-requires : tie.Need-reply-answer-requires
+reply-answer-requires c κs =
     let b7 = c .before .before .before .before .before .before .before in
     let b15 = c .before .before .before .before .before .before .before .before .before .before .before .before .before .before .before in
     let b18 = c .before .before .before .before .before .before .before .before .before .before .before .before .before .before .before .before .before .before in
     let a = b18 .args in
     let l = b15 .frames-buffer .result in
-    let fits : a .n ≤ length l = omega (arith, b15 .frames-buffer .ensures, b18 .pre .0) in
+    let fits : a .n ≤ length l = omega (arith, b15 .frames-buffer .ensures, b18 .pre) in
     let v = b7 .render-seq in
     let len : length (v .last .1 .1 .1 .1 .1 .0) ≡ a .n = v .kept .1 .1 .1 .1 .1 .0 ∙ length-take-le (a .n) l fits in
     let e = ap length (take-at (v .last .1 .1 .1 .1 .1 .0) (drop (a .n) l) (a .n) len) ∙ len in
-    (omega (arith, e, b18 .pre .0), b18 .pre .1)
+    omega (arith, e, b18 .pre)
 
 returns : tie.Need-returns
 returns c =
@@ -73,15 +73,15 @@ returns c =
     let b21 = c .before .before .before .before .before .before .before .before .before .before .before .before .before .before .before .before .before .before .before .before .before in
     let a = b21 .args in
     let l = b18 .frames-buffer .result in
-    let fits : a .n ≤ length l = omega (arith, b18 .frames-buffer .ensures, b21 .pre .0) in
+    let fits : a .n ≤ length l = omega (arith, b18 .frames-buffer .ensures, b21 .pre) in
     let v = b10 .render-seq in
     let len : length (v .last .1 .1 .1 .1 .1 .0) ≡ a .n = v .kept .1 .1 .1 .1 .1 .0 ∙ length-take-le (a .n) l fits in
     let heard = take-at (v .last .1 .1 .1 .1 .1 .0) (drop (a .n) l) (a .n) len in
-    let printed = rw (heard, b5 .station .ensures) at (c .before .before .print-answer .ensures) in
+    let printed = rw (heard, b5 .station .ensures) at (c .before .before .reply-answer .ensures) in
     let room = sym (b17 .frames-buffer2 .ensures) in
     let string = sym (b16 .string-buffer .ensures) in
     let n = length-take-le (a .n) l fits in
-    printed-as
+    fitted-as
     (played-by (a .seq) (a .notes .now) (a .n) (a .seed) (a .draw) _ _ (b15 .«open» .ensures) refl (v .ensures)
     (λ j. record { seq = a .seq; notes = a .notes .now; lane = []; n = n j; room = room j; string = string j }))
     printed
@@ -103,7 +103,7 @@ play-score-spec =
     (λ c κs. search needs)
     (λ c κs. search needs)
     array-share-prefix-frames
-    slice-aggregate-print-answer
-    print-answer-requires
+    slice-aggregate-reply-answer
+    reply-answer-requires
     (λ c. search needs)
     returns)

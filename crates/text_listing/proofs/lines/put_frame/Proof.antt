@@ -9,8 +9,8 @@ use Rattle.text_listing.proofs.lines.put_frame.Tie as tie
 put-decimal-field-requires : tie.Need-put-decimal-field-requires
 put-decimal-field-requires c κs = second-room (70 ∷ []) _ _ (c .before .before .before .before .before .before .pre) (c .before .before .before .put-byte .ensures)
 
-put-hex-field-requires : tie.Need-put-hex-field-requires
-put-hex-field-requires c κs =
+put-hex-8-field-requires : tie.Need-put-hex-8-field-requires
+put-hex-8-field-requires c κs =
     let b3 = c .before .before .before in
     let b7 = b3 .before .before .before .before in
     let b10 = b7 .before .before .before in
@@ -22,7 +22,7 @@ put-byte-requires-2 c κs =
     let b7 = b3 .before .before .before .before in
     let b11 = b7 .before .before .before .before in
     let b14 = b11 .before .before .before in
-    last-room (70 ∷ []) _ _ lineEnd (b14 .pre) (b11 .put-byte .ensures) (b7 .put-decimal-field .ensures) (b3 .put-hex-field .ensures)
+    last-room (70 ∷ []) _ _ lineEnd (b14 .pre) (b11 .put-byte .ensures) (b7 .put-decimal-field .ensures) (b3 .put-hex-8-field .ensures)
 
 returns : tie.Need-returns
 returns c =
@@ -30,7 +30,7 @@ returns c =
     let b10 = b6 .before .before .before .before in
     let b14 = b10 .before .before .before .before in
     let b17 = b14 .before .before .before in
-    four (70 ∷ []) _ _ lineEnd (b17 .pre) (b14 .put-byte .ensures) (b10 .put-decimal-field .ensures) (b6 .put-hex-field .ensures) (c .before .before .put-byte2 .ensures)
+    four (70 ∷ []) _ _ lineEnd (b17 .pre) (b14 .put-byte .ensures) (b10 .put-decimal-field .ensures) (b6 .put-hex-8-field .ensures) (c .before .before .put-byte2 .ensures)
 
 pub put-frame-spec : {M : Type 1} → statement M
 put-frame-spec =
@@ -38,7 +38,7 @@ put-frame-spec =
     (tie.spec
     (λ c κs. search needs)
     put-decimal-field-requires
-    put-hex-field-requires
+    put-hex-8-field-requires
     put-byte-requires-2
     (λ c. search needs)
     returns)

@@ -3,7 +3,7 @@ use borrow.Author.Needs.{needs}
 use Prim.Native.Nat.{_-_}
 use mathlib.Core.Path.{refl}
 use lib.ListN.{length, getD}
-use Rattle.text_listing.proofs.Listings.{Listed, listed-none, line-room, listed-more, listed-all}
+use Rattle.text_listing.proofs.Listings.{lines-room, Listed, listed-none, line-room, listed-more, listed-all}
 use Rattle.text_listing.proofs.lines.put_lines.Statement.{statement}
 use Rattle.text_listing.proofs.lines.put_lines.Tie as tie
 
@@ -14,7 +14,7 @@ abbrev μ-loop : tie.MeasureT-loop
 μ-loop out₀ bits at₀ i₀ out at i = length bits - i
 
 loop-holds : tie.Need-loop-holds Inv-loop μ-loop
-loop-holds c = listed-none (c .before .before .pre)
+loop-holds c = listed-none (lines-room _ (c .before .before .pre))
 
 put-frame-requires : tie.Need-put-frame-requires Inv-loop μ-loop
 put-frame-requires c κs = line-room (c .before .before .before .loop .inv) (c .before .before .loop-test .taken) _

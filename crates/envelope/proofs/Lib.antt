@@ -1,0 +1,3 @@
+pub mod Stages
+mod Rising
+mod Parting

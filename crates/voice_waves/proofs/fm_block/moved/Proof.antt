@@ -1,0 +1,10 @@
+-- `voice_waves::fm_block::moved` meets its contract. Assumes nothing.
+use borrow.Author.Needs.{needs}
+use Rattle.voice_waves.proofs.fm_block.moved.Statement.{statement}
+use Rattle.voice_waves.proofs.fm_block.moved.Tie as tie
+
+returns : tie.Need-returns
+returns c = rw (c .fm-next .ensures, c .before .phase-step .ensures, c .before .before .at .ensures)
+
+pub moved-spec : {M : Type 1} → statement M
+moved-spec = tie.close (tie.spec (λ c κs. search needs) (λ c κs. search needs) (λ c κs. search needs) returns)
