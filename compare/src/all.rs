@@ -2,9 +2,9 @@
 
 use crate::engine::Count;
 use crate::{
-    boards, ceilings, cue_sheets, customers, drawbars, helpers, hop_calls, kernels, kit_notes,
-    kit_scores, kits, mapped_calls, note_calls, plan_calls, progress, random, score_calls,
-    station_calls, texts, tones, voices, wave_files,
+    boards, ceilings, cue_sheets, drawbars, helpers, hop_calls, kernels, kit_notes, kit_scores,
+    kits, mapped_calls, note_calls, plan_calls, progress, random, score_calls, station_calls,
+    texts, tones, voices, wave_files,
 };
 use std::process::{Command, Stdio};
 
@@ -15,7 +15,7 @@ const TEXTS: u64 = 1_000_000;
 /// One row of the table: what is compared, with what, and the run of one case in a number.
 type Part = (&'static str, &'static str, fn(u64) -> Count);
 
-const PARTS: [Part; 22] = [
+const PARTS: [Part; 21] = [
     ("float helpers", "Rust's operations", helpers::run),
     ("kernels", "det.rs and the request's words", |scale| {
         kernels::run_all(kernels::COUNT.div_ceil(scale), scale)
@@ -49,11 +49,6 @@ const PARTS: [Part; 22] = [
     ("planning calls", "the notes sorted and added", |scale| {
         plan_calls::run(plan_calls::COUNT.div_ceil(scale))
     }),
-    (
-        "score, note and planning calls by tono.h",
-        "01's tally and note call",
-        |scale| customers::run(customers::COUNT.div_ceil(scale)),
-    ),
     (
         "scores at the ceiling",
         "the formula of the request",

@@ -1,7 +1,7 @@
 //! Nanoseconds a sample of each wave as a note call, as a score of one note and as a chord of 16,
 //! library and original.
 
-use crate::harness::{h_note, h_score, NoteArgs, ScoreArgs};
+use crate::harness::{tono_note, tono_render_seq, NoteArgs, ScoreArgs};
 use crate::hop_bench;
 use crate::mapped_bench;
 use crate::voice_vectors::USUAL;
@@ -102,7 +102,7 @@ impl Bench {
     }
 
     pub fn our_note(&mut self, wave: u32) -> u32 {
-        h_note(NoteArgs {
+        tono_note(NoteArgs {
             rate: RATE,
             wave,
             style: self.style,
@@ -119,7 +119,7 @@ impl Bench {
     }
 
     pub fn our_score(&mut self, wave: u32, words: &[u32]) -> u32 {
-        h_score(ScoreArgs {
+        tono_render_seq(ScoreArgs {
             seeds: &mut [1; 8],
             counts: &mut [0; 8],
             draws: &mut 0,

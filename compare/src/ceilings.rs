@@ -2,7 +2,7 @@
 //! formula in whole numbers.
 
 use crate::engine::{threads, Count};
-use crate::harness::{h_plan, h_score, PlanArgs, ScoreArgs};
+use crate::harness::{tono_planned_draws, tono_render_seq, PlanArgs, ScoreArgs};
 use crate::progress::Progress;
 use crate::score_cases::note;
 use crate::tried::{self, Tried};
@@ -50,7 +50,7 @@ fn held(m: usize) -> Vec<u32> {
 /// A number and the draws of a planning call of these notes, a step a second, from a session at draw 0.
 fn planned(rate: u32, wave: u32, notes: &[u32], n: usize) -> (u32, u64) {
     let mut draws = 0;
-    let number = h_plan(PlanArgs {
+    let number = tono_planned_draws(PlanArgs {
         seeds: &[0; 8],
         counts: &[0; 8],
         draws: &mut draws,
@@ -79,7 +79,7 @@ fn planned(rate: u32, wave: u32, notes: &[u32], n: usize) -> (u32, u64) {
 fn played(rate: u32, wave: u32, notes: &[u32], n: usize) -> (u32, u64) {
     let mut draws = 0;
     let mut counts = [0; 8];
-    let number = h_score(ScoreArgs {
+    let number = tono_render_seq(ScoreArgs {
         seeds: &mut [0; 8],
         counts: &mut counts,
         draws: &mut draws,

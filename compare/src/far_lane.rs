@@ -2,7 +2,7 @@
 //! not 0.
 
 use crate::engine::{same_values, Count};
-use crate::harness::{h_score, ScoreArgs};
+use crate::harness::{tono_render_seq, ScoreArgs};
 use crate::reference::{self, ScoreCall, Session};
 use crate::score::Score;
 use crate::score_cases::{curve, usual};
@@ -36,7 +36,7 @@ fn score((offset, hop, frames): (u32, u32, usize), wave: u32) -> Score {
 /// The number that the library gives, and its frames.
 fn ours(score: &Score, lane: &[f32]) -> (u32, Vec<f32>) {
     let mut out = vec![1.0; score.out];
-    let number = h_score(ScoreArgs {
+    let number = tono_render_seq(ScoreArgs {
         seeds: &mut [1, 0, 0, 0, 0, 0, 0, 0],
         counts: &mut [0; 8],
         draws: &mut 0,

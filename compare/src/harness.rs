@@ -96,60 +96,54 @@ pub struct NoteArgs<'a> {
     pub string: &'a mut [f32],
 }
 
-macro_rules! note_calls {
-    ($($name:ident),*) => {$(
-        /// The note call: a refusal's number, 0, or 4294967295 where no call is made.
-        pub fn $name(args: NoteArgs) -> u32 {
-            unsafe extern "C" {
-                fn $name(
-                    rate: u32,
-                    wave: u32,
-                    style: u32,
-                    knobs: *const f32,
-                    knobs_len: usize,
-                    bars: *const f32,
-                    bars_len: usize,
-                    gain: f32,
-                    state: *mut u64,
-                    draws: *mut u64,
-                    pitch: *const f32,
-                    pitch_len: usize,
-                    duty: *const f32,
-                    duty_len: usize,
-                    out: *mut f32,
-                    out_len: usize,
-                    string: *mut f32,
-                    string_len: usize,
-                ) -> u32;
-            }
-            // Each pointer and length are those of a slice, which is what the function takes.
-            unsafe {
-                $name(
-                    args.rate,
-                    args.wave,
-                    args.style,
-                    args.knobs.as_ptr(),
-                    args.knobs.len(),
-                    args.bars.as_ptr(),
-                    args.bars.len(),
-                    args.gain,
-                    args.state,
-                    args.draws,
-                    args.pitch.as_ptr(),
-                    args.pitch.len(),
-                    args.duty.as_ptr(),
-                    args.duty.len(),
-                    args.out.as_mut_ptr(),
-                    args.out.len(),
-                    args.string.as_mut_ptr(),
-                    args.string.len(),
-                )
-            }
-        }
-    )*};
+/// The note call: a refusal's number, 0, or 4294967295 where no call is made.
+pub fn tono_note(args: NoteArgs) -> u32 {
+    unsafe extern "C" {
+        fn tono_note(
+            rate: u32,
+            wave: u32,
+            style: u32,
+            knobs: *const f32,
+            knobs_len: usize,
+            bars: *const f32,
+            bars_len: usize,
+            gain: f32,
+            state: *mut u64,
+            draws: *mut u64,
+            pitch: *const f32,
+            pitch_len: usize,
+            duty: *const f32,
+            duty_len: usize,
+            out: *mut f32,
+            out_len: usize,
+            string: *mut f32,
+            string_len: usize,
+        ) -> u32;
+    }
+    // Each pointer and length are those of a slice, which is what the function takes.
+    unsafe {
+        tono_note(
+            args.rate,
+            args.wave,
+            args.style,
+            args.knobs.as_ptr(),
+            args.knobs.len(),
+            args.bars.as_ptr(),
+            args.bars.len(),
+            args.gain,
+            args.state,
+            args.draws,
+            args.pitch.as_ptr(),
+            args.pitch.len(),
+            args.duty.as_ptr(),
+            args.duty.len(),
+            args.out.as_mut_ptr(),
+            args.out.len(),
+            args.string.as_mut_ptr(),
+            args.string.len(),
+        )
+    }
 }
-
-note_calls!(h_note, tono_note);
 
 /// What a score call takes: the session, numbers, values to read, and what it is lent.
 pub struct ScoreArgs<'a> {
@@ -177,90 +171,84 @@ pub struct ScoreArgs<'a> {
     pub string: &'a mut [f32],
 }
 
-macro_rules! score_calls {
-    ($($name:ident),*) => {$(
-        /// The score call: a refusal's number, 0, or 4294967295 where no call is made.
-        pub fn $name(args: ScoreArgs) -> u32 {
-            unsafe extern "C" {
-                fn $name(
-                    seeds: *mut u64,
-                    seeds_len: usize,
-                    counts: *mut u64,
-                    counts_len: usize,
-                    draws: *mut u64,
-                    station: u32,
-                    rate: u32,
-                    tempo: f32,
-                    steps_per_beat: u32,
-                    points: *const u32,
-                    points_len: usize,
-                    swing: f32,
-                    humanize: f32,
-                    hop: u32,
-                    wave: u32,
-                    style: u32,
-                    duty: f32,
-                    knobs: *const f32,
-                    knobs_len: usize,
-                    bars: *const f32,
-                    bars_len: usize,
-                    env: *const f32,
-                    env_len: usize,
-                    notes: *const u32,
-                    notes_len: usize,
-                    lane: *const f32,
-                    lane_len: usize,
-                    out: *mut f32,
-                    out_len: usize,
-                    note_buf: *mut f32,
-                    note_buf_len: usize,
-                    string: *mut f32,
-                    string_len: usize,
-                ) -> u32;
-            }
-            // Each pointer and length are those of a slice, which is what the function takes.
-            unsafe {
-                $name(
-                    args.seeds.as_mut_ptr(),
-                    args.seeds.len(),
-                    args.counts.as_mut_ptr(),
-                    args.counts.len(),
-                    args.draws,
-                    args.station,
-                    args.rate,
-                    args.tempo,
-                    args.steps_per_beat,
-                    args.points.as_ptr(),
-                    args.points.len(),
-                    args.swing,
-                    args.humanize,
-                    args.hop,
-                    args.wave,
-                    args.style,
-                    args.duty,
-                    args.knobs.as_ptr(),
-                    args.knobs.len(),
-                    args.bars.as_ptr(),
-                    args.bars.len(),
-                    args.env.as_ptr(),
-                    args.env.len(),
-                    args.notes.as_ptr(),
-                    args.notes.len(),
-                    args.lane.as_ptr(),
-                    args.lane.len(),
-                    args.out.as_mut_ptr(),
-                    args.out.len(),
-                    args.note_buf.as_mut_ptr(),
-                    args.note_buf.len(),
-                    args.string.as_mut_ptr(),
-                    args.string.len(),
-                )
-            }
-        }
-    )*};
+/// The score call: a refusal's number, 0, or 4294967295 where no call is made.
+pub fn tono_render_seq(args: ScoreArgs) -> u32 {
+    unsafe extern "C" {
+        fn tono_render_seq(
+            seeds: *mut u64,
+            seeds_len: usize,
+            counts: *mut u64,
+            counts_len: usize,
+            draws: *mut u64,
+            station: u32,
+            rate: u32,
+            tempo: f32,
+            steps_per_beat: u32,
+            points: *const u32,
+            points_len: usize,
+            swing: f32,
+            humanize: f32,
+            hop: u32,
+            wave: u32,
+            style: u32,
+            duty: f32,
+            knobs: *const f32,
+            knobs_len: usize,
+            bars: *const f32,
+            bars_len: usize,
+            env: *const f32,
+            env_len: usize,
+            notes: *const u32,
+            notes_len: usize,
+            lane: *const f32,
+            lane_len: usize,
+            out: *mut f32,
+            out_len: usize,
+            note_buf: *mut f32,
+            note_buf_len: usize,
+            string: *mut f32,
+            string_len: usize,
+        ) -> u32;
+    }
+    // Each pointer and length are those of a slice, which is what the function takes.
+    unsafe {
+        tono_render_seq(
+            args.seeds.as_mut_ptr(),
+            args.seeds.len(),
+            args.counts.as_mut_ptr(),
+            args.counts.len(),
+            args.draws,
+            args.station,
+            args.rate,
+            args.tempo,
+            args.steps_per_beat,
+            args.points.as_ptr(),
+            args.points.len(),
+            args.swing,
+            args.humanize,
+            args.hop,
+            args.wave,
+            args.style,
+            args.duty,
+            args.knobs.as_ptr(),
+            args.knobs.len(),
+            args.bars.as_ptr(),
+            args.bars.len(),
+            args.env.as_ptr(),
+            args.env.len(),
+            args.notes.as_ptr(),
+            args.notes.len(),
+            args.lane.as_ptr(),
+            args.lane.len(),
+            args.out.as_mut_ptr(),
+            args.out.len(),
+            args.note_buf.as_mut_ptr(),
+            args.note_buf.len(),
+            args.string.as_mut_ptr(),
+            args.string.len(),
+        )
+    }
 }
-
-score_calls!(h_score, tono_render_seq);
 
 /// What a planning call takes: the session, numbers and values to read.
 pub struct PlanArgs<'a> {
@@ -286,80 +274,74 @@ pub struct PlanArgs<'a> {
     pub n: usize,
 }
 
-macro_rules! planning_calls {
-    ($($name:ident),*) => {$(
-        /// The planning call: a refusal's number, 0, or 4294967295 where no call is made.
-        pub fn $name(args: PlanArgs) -> u32 {
-            unsafe extern "C" {
-                fn $name(
-                    seeds: *const u64,
-                    seeds_len: usize,
-                    counts: *const u64,
-                    counts_len: usize,
-                    draws: *mut u64,
-                    station: u32,
-                    rate: u32,
-                    tempo: f32,
-                    steps_per_beat: u32,
-                    points: *const u32,
-                    points_len: usize,
-                    swing: f32,
-                    humanize: f32,
-                    hop: u32,
-                    wave: u32,
-                    style: u32,
-                    duty: f32,
-                    knobs: *const f32,
-                    knobs_len: usize,
-                    bars: *const f32,
-                    bars_len: usize,
-                    env: *const f32,
-                    env_len: usize,
-                    notes: *const u32,
-                    notes_len: usize,
-                    lane: *const f32,
-                    lane_len: usize,
-                    n: usize,
-                ) -> u32;
-            }
-            // Each pointer and length are those of a slice, which is what the function takes.
-            unsafe {
-                $name(
-                    args.seeds.as_ptr(),
-                    args.seeds.len(),
-                    args.counts.as_ptr(),
-                    args.counts.len(),
-                    args.draws,
-                    args.station,
-                    args.rate,
-                    args.tempo,
-                    args.steps_per_beat,
-                    args.points.as_ptr(),
-                    args.points.len(),
-                    args.swing,
-                    args.humanize,
-                    args.hop,
-                    args.wave,
-                    args.style,
-                    args.duty,
-                    args.knobs.as_ptr(),
-                    args.knobs.len(),
-                    args.bars.as_ptr(),
-                    args.bars.len(),
-                    args.env.as_ptr(),
-                    args.env.len(),
-                    args.notes.as_ptr(),
-                    args.notes.len(),
-                    args.lane.as_ptr(),
-                    args.lane.len(),
-                    args.n,
-                )
-            }
-        }
-    )*};
+/// The planning call: a refusal's number, 0, or 4294967295 where no call is made.
+pub fn tono_planned_draws(args: PlanArgs) -> u32 {
+    unsafe extern "C" {
+        fn tono_planned_draws(
+            seeds: *const u64,
+            seeds_len: usize,
+            counts: *const u64,
+            counts_len: usize,
+            draws: *mut u64,
+            station: u32,
+            rate: u32,
+            tempo: f32,
+            steps_per_beat: u32,
+            points: *const u32,
+            points_len: usize,
+            swing: f32,
+            humanize: f32,
+            hop: u32,
+            wave: u32,
+            style: u32,
+            duty: f32,
+            knobs: *const f32,
+            knobs_len: usize,
+            bars: *const f32,
+            bars_len: usize,
+            env: *const f32,
+            env_len: usize,
+            notes: *const u32,
+            notes_len: usize,
+            lane: *const f32,
+            lane_len: usize,
+            n: usize,
+        ) -> u32;
+    }
+    // Each pointer and length are those of a slice, which is what the function takes.
+    unsafe {
+        tono_planned_draws(
+            args.seeds.as_ptr(),
+            args.seeds.len(),
+            args.counts.as_ptr(),
+            args.counts.len(),
+            args.draws,
+            args.station,
+            args.rate,
+            args.tempo,
+            args.steps_per_beat,
+            args.points.as_ptr(),
+            args.points.len(),
+            args.swing,
+            args.humanize,
+            args.hop,
+            args.wave,
+            args.style,
+            args.duty,
+            args.knobs.as_ptr(),
+            args.knobs.len(),
+            args.bars.as_ptr(),
+            args.bars.len(),
+            args.env.as_ptr(),
+            args.env.len(),
+            args.notes.as_ptr(),
+            args.notes.len(),
+            args.lane.as_ptr(),
+            args.lane.len(),
+            args.n,
+        )
+    }
 }
-
-planning_calls!(h_plan, tono_planned_draws);
 
 /// The C call: the listing's length, or -23 where it is longer than the reply.
 pub fn tono_play(score: &[u8], reply: &mut [u8]) -> i64 {

@@ -1,8 +1,7 @@
-//! Lists of score calls at hops on one session, through `h_score` and by the tally, whose original is given
+//! Lists of score calls at hops on one session, through `tono_render_seq` and by the tally, whose original is given
 //! the widened curve.
 
 use crate::engine::Count;
-use crate::harness::h_score;
 use crate::long_scores::{long_hopped, longest_hopped};
 use crate::reference::NO_CALL;
 use crate::score::Score;
@@ -52,7 +51,6 @@ fn long_ones() -> Vec<(String, Vec<Score>)> {
 
 const HOPPED: Lists = Lists {
     what: "score calls at hops",
-    call: h_score,
     most: CALLS,
     random: Score::hopped,
     session: on_station_0,

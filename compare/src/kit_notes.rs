@@ -2,7 +2,7 @@
 //! generator after each.
 
 use crate::engine::{in_threads, threads, Count, SHOWN};
-use crate::harness::{h_note, NoteArgs};
+use crate::harness::{tono_note, NoteArgs};
 use crate::kits::{borders, pitch_of, LOWEST_RATE, NUMBERS, RATES, USUAL};
 use crate::progress::Progress;
 use crate::random::{draw, Source};
@@ -118,7 +118,7 @@ impl KitNote {
     fn ours(&self, string: &mut [f32]) -> (Vec<f32>, u64) {
         let mut out = vec![f32::from_bits(0x7f12_3456); self.pitch.len()];
         let (mut state, mut draws) = (self.state, 0);
-        h_note(NoteArgs {
+        tono_note(NoteArgs {
             rate: self.rate,
             wave: KIT,
             style: self.style,

@@ -2,7 +2,6 @@
 
 use crate::engine::Count;
 use crate::grid::Grid;
-use crate::harness::h_score;
 use crate::kit_draws::{drawn, midi, Drawn};
 use crate::long_scores::{long, long_hopped, long_mapped};
 use crate::random::Source;
@@ -184,7 +183,6 @@ fn long_ones() -> Vec<(String, Vec<Score>)> {
 
 const OF_KIT: Lists = Lists {
     what: "score calls of the drum kit",
-    call: h_score,
     most: CALLS,
     random: Score::of_kit,
     session: station_calls::opened,

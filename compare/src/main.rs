@@ -14,7 +14,6 @@ mod ceilings;
 mod cue_reference;
 mod cue_sheets;
 mod cue_vectors;
-mod customers;
 mod drawbars;
 mod dsp;
 mod engine;
@@ -118,7 +117,6 @@ const USAGE: &str =
        compare hops [COUNT [SEED]]  COUNT score calls at hops in lists, 1.5 x 10^6 by default
        compare stations [COUNT [SEED]]  COUNT score calls over stations in lists, 1.25 x 10^6 by default
        compare plans [COUNT [SEED]]  COUNT planning calls and a tenth as many of texts, 10^6 by default
-       compare customers [COUNT [SEED]]  COUNT score calls, note calls and planning calls through the names of tono.h, 10^6 by default
        compare ceilings [SCALE]  scores that draw the most, at one rate in SCALE
        compare drawbars [COUNT]  COUNT note calls of organs with drawbars, 10^6 by default, and a tenth as many texts
        compare far-lane          curves about place 2^32 of a lane of 16 GiB, most of which are not in memory; minutes
@@ -190,9 +188,6 @@ fn main() -> ExitCode {
         ["plans"] => status(plan_calls::run(plan_calls::COUNT)),
         ["plans", count] => counted(count, plan_calls::run),
         ["plans", count, seed] => counted_from(count, seed, plan_calls::run),
-        ["customers"] => status(customers::run(customers::COUNT)),
-        ["customers", count] => counted(count, customers::run),
-        ["customers", count, seed] => counted_from(count, seed, customers::run),
         ["ceilings"] => status(ceilings::run(1)),
         ["ceilings", scale] => scaled(scale, |scale| status(ceilings::run(scale))),
         ["drawbars"] => status(drawbars::run(drawbars::COUNT)),

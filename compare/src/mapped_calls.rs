@@ -1,7 +1,6 @@
-//! Lists of score calls with tempo maps on one session, through `h_score` and by the tally.
+//! Lists of score calls with tempo maps on one session, through `tono_render_seq` and by the tally.
 
 use crate::engine::Count;
-use crate::harness::h_score;
 use crate::long_scores::{long_mapped, longest_mapped};
 use crate::reference::NO_CALL;
 use crate::score::Score;
@@ -42,7 +41,6 @@ fn long_ones() -> Vec<(String, Vec<Score>)> {
 
 const MAPPED: Lists = Lists {
     what: "mapped score calls",
-    call: h_score,
     most: CALLS,
     random: Score::mapped,
     session: on_station_0,

@@ -1,8 +1,8 @@
-//! Note calls of every outcome, through a call from C and by the reference.
+//! Note calls of every outcome, through `tono_note` and by the reference.
 
 use crate::drawbars::bar_kinds;
 use crate::engine::{threads, Count};
-use crate::harness::{h_note, tono_note, NoteArgs};
+use crate::harness::{tono_note, NoteArgs};
 use crate::lent::{Lent, LentNumber};
 use crate::progress::Progress;
 use crate::random::{state_at, Source};
@@ -112,7 +112,7 @@ impl Case {
     }
 
     /// The number that the reference gives, and what of the library's answer is another.
-    fn tried(&self, call: fn(NoteArgs) -> u32) -> (u32, Option<String>) {
+    fn tried(&self) -> (u32, Option<String>) {
         let (knobs, bars, pitch, duty) = (
             Lent::of(&self.knobs),
             Lent::of(&self.bars),
@@ -121,7 +121,7 @@ impl Case {
         );
         let (mut out, mut string) = (Lent::any(self.out), Lent::any(self.string));
         let (mut state, mut draws) = (LentNumber::of(self.state), LentNumber::of(self.draws));
-        let number = call(NoteArgs {
+        let number = tono_note(NoteArgs {
             rate: self.rate,
             wave: self.wave,
             style: self.style,
@@ -153,8 +153,8 @@ impl Case {
     }
 
     /// The number that the reference gives.
-    fn add_to(&self, call: fn(NoteArgs) -> u32, name: &str, tried: &mut Tried) -> u32 {
-        let (number, differs) = self.tried(call);
+    fn add_to(&self, name: &str, tried: &mut Tried) -> u32 {
+        let (number, differs) = self.tried();
         tried.add(number, differs.map(|what| format!("{name}: {what}")));
         number
     }
@@ -170,10 +170,10 @@ fn longest() -> Case {
     case
 }
 
-fn share(call: fn(NoteArgs) -> u32, first: u64, count: u64, progress: &Progress) -> Tried {
+fn share(first: u64, count: u64, progress: &Progress) -> Tried {
     let mut tried = Tried::default();
     let mut add = |name: String, case: Case| {
-        case.add_to(call, &name, &mut tried);
+        case.add_to(&name, &mut tried);
     };
     if first == 0 {
         add("the longest note".to_string(), longest());
@@ -188,14 +188,7 @@ fn share(call: fn(NoteArgs) -> u32, first: u64, count: u64, progress: &Progress)
 /// Compares `count` calls.
 pub fn run(count: u64) -> Count {
     tried::run("note calls", count, |thread, progress| {
-        share(h_note, thread, count, progress)
-    })
-}
-
-/// The same through the call of tono.h.
-pub fn run_customers(count: u64) -> Count {
-    tried::run("note calls through tono_note", count, |thread, progress| {
-        share(tono_note, thread, count, progress)
+        share(thread, count, progress)
     })
 }
 
@@ -204,7 +197,7 @@ fn organ_share(first: u64, count: u64, progress: &Progress) -> Tried {
     let mut tried = Tried::default();
     for i in (first..count).step_by(threads()) {
         let case = Case::of_wave(ORGAN, &mut Source::new(i));
-        let number = case.add_to(h_note, &format!("organ call {i}"), &mut tried);
+        let number = case.add_to(&format!("organ call {i}"), &mut tried);
         if number == 0 {
             for (kind, is) in bar_kinds(&case.bars) {
                 tried.mark_if(kind, is);

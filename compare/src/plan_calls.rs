@@ -3,7 +3,7 @@
 
 use crate::engine::{threads, Count};
 use crate::grid::{bare, Grid};
-use crate::harness::{h_plan, tono_plan, tono_planned_draws, PlanArgs};
+use crate::harness::{tono_plan, tono_planned_draws, PlanArgs};
 use crate::lent::{Lent, LentNumber, LentNumbers};
 use crate::progress::Progress;
 use crate::random::Source;
@@ -110,8 +110,8 @@ impl Buffers {
         }
     }
 
-    fn plan(&mut self, call: fn(PlanArgs) -> u32, score: &Score, draws: &mut LentNumber) -> u32 {
-        call(PlanArgs {
+    fn plan(&mut self, score: &Score, draws: &mut LentNumber) -> u32 {
+        tono_planned_draws(PlanArgs {
             seeds: self.seeds.part_mut(),
             counts: self.counts.part_mut(),
             draws: draws.place(),
@@ -219,14 +219,14 @@ fn mark(score: &Score, session: &Session, number: u32, tried: &mut Tried) {
     }
 }
 
-fn try_plan(call: fn(PlanArgs) -> u32, case: u64, tried: &mut Tried) {
+fn try_plan(case: u64, tried: &mut Tried) {
     let mut s = Source::new(case);
     let score = score(&mut s);
     let session = opened(&score, &mut s);
     let draws_before = s.number();
     let mut draws = LentNumber::of(draws_before);
     let mut buffers = Buffers::of(&score, &session);
-    let ours = buffers.plan(call, &score, &mut draws);
+    let ours = buffers.plan(&score, &mut draws);
     let called = session.plan_call(&score.call());
     let theirs = number(&called);
     let told = match called {
@@ -278,17 +278,7 @@ fn cases(what: &str, count: u64, one: fn(u64, &mut Tried)) -> Count {
 
 /// Compares `count` calls, and a tenth as many texts.
 pub fn run(count: u64) -> Count {
-    let calls = cases("planning calls", count, |case, tried| {
-        try_plan(h_plan, case, tried)
-    });
+    let calls = cases("planning calls", count, try_plan);
     let texts = cases("plans of texts", count.div_ceil(10), try_text);
     calls + texts
-}
-
-/// Compares `count` calls through the call of tono.h.
-pub fn run_customers(count: u64) -> Count {
-    let what = "planning calls through tono_planned_draws";
-    cases(what, count, |case, tried| {
-        try_plan(tono_planned_draws, case, tried)
-    })
 }

@@ -1,7 +1,7 @@
 //! Lists of score calls on one session, through a call from C and by the tallies of its stations.
 
 use crate::engine::{threads, Count};
-use crate::harness::{h_score, ScoreArgs};
+use crate::harness::{tono_render_seq, ScoreArgs};
 use crate::lent::{Lent, LentNumber, LentNumbers};
 use crate::long_scores::{long, longest};
 use crate::progress::Progress;
@@ -16,11 +16,10 @@ pub const COUNT: u64 = 1_000_000;
 /// How many calls a list on one station has at most.
 pub const CALLS: u64 = 8;
 
-/// What a run of lists tries: the call from C, how many calls a list has at most, how a call is made and the session of a list,
+/// What a run of lists tries: how many calls a list has at most, how a call is made and the session of a list,
 /// the longer calls that stand beside, each list on a session of its own, and what is worth a line of a call.
 pub struct Lists {
     pub what: &'static str,
-    pub call: fn(ScoreArgs) -> u32,
     pub most: u64,
     pub random: fn(&mut Source) -> Score,
     pub session: fn(&[Score], &mut Source) -> Session,
@@ -37,15 +36,10 @@ pub struct Played<'a> {
 }
 
 /// The number that the tally gives, and what of the library's answer is another.
-fn play(
-    lists: &Lists,
-    session: &mut Session,
-    score: &Score,
-    draws_before: u64,
-) -> (u32, Option<String>) {
+fn play(session: &mut Session, score: &Score, draws_before: u64) -> (u32, Option<String>) {
     let mut draws = LentNumber::of(draws_before);
     let mut buffers = Buffers::of(score, session);
-    let number = buffers.play(lists, score, &mut draws);
+    let number = buffers.play(score, &mut draws);
     let called = session.score_call(&score.call());
     let told = match called {
         None => draws_before,
@@ -99,8 +93,8 @@ impl Buffers {
         }
     }
 
-    fn play(&mut self, lists: &Lists, score: &Score, draws: &mut LentNumber) -> u32 {
-        (lists.call)(ScoreArgs {
+    fn play(&mut self, score: &Score, draws: &mut LentNumber) -> u32 {
+        tono_render_seq(ScoreArgs {
             seeds: self.seeds.part_mut(),
             counts: self.counts.part_mut(),
             draws: draws.place(),
@@ -187,7 +181,7 @@ fn try_list(lists: &Lists, list: u64, calls: u64, tried: &mut Tried) {
     let opened = session.counts();
     for (i, score) in scores.iter().enumerate() {
         let before = session;
-        let (number, differs) = play(lists, &mut session, score, s.number());
+        let (number, differs) = play(&mut session, score, s.number());
         let faulty = differs.is_some();
         tried.add(
             number,
@@ -228,10 +222,10 @@ pub fn mark_kinds(played: &Played, tried: &mut Tried) {
 }
 
 /// These scores on one session.
-fn try_long(lists: &Lists, name: &str, scores: &[Score], tried: &mut Tried) {
+fn try_long(name: &str, scores: &[Score], tried: &mut Tried) {
     let mut session = Session::open(1, 2);
     for score in scores {
-        let (number, differs) = play(lists, &mut session, score, 3);
+        let (number, differs) = play(&mut session, score, 3);
         tried.add(number, differs.map(|what| format!("{name}: {what}")));
     }
 }
@@ -246,7 +240,7 @@ fn share(lists: &Lists, first: u64, count: u64, progress: &Progress) -> Tried {
     let mut tried = Tried::default();
     let long = (lists.long)();
     for (name, scores) in long.iter().skip(first as usize).step_by(threads()) {
-        try_long(lists, name, scores, &mut tried);
+        try_long(name, scores, &mut tried);
     }
     for list in (first..).step_by(threads()) {
         let before = calls_before(list, lists.most);
@@ -276,7 +270,6 @@ fn long_ones() -> Vec<(String, Vec<Score>)> {
 
 const STRAIGHT: Lists = Lists {
     what: "score calls",
-    call: h_score,
     most: CALLS,
     random: Score::random,
     session: on_station_0,

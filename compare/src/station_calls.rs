@@ -2,7 +2,6 @@
 //! its stations.
 
 use crate::engine::Count;
-use crate::harness::{h_score, tono_render_seq};
 use crate::random::Source;
 use crate::reference::{Session, Tally, NO_CALL, STATIONS};
 use crate::score::Score;
@@ -186,7 +185,6 @@ fn mark_no_call(played: &Played, tried: &mut Tried) {
 
 const STATIONED: Lists = Lists {
     what: "score calls over stations",
-    call: h_score,
     most: CALLS,
     random: Score::stationed,
     session: opened,
@@ -197,14 +195,4 @@ const STATIONED: Lists = Lists {
 /// Compares `count` calls.
 pub fn run(count: u64) -> Count {
     run_lists(&STATIONED, count)
-}
-
-/// The same through the call of tono.h.
-pub fn run_customers(count: u64) -> Count {
-    let lists = Lists {
-        what: "score calls through tono_render_seq",
-        call: tono_render_seq,
-        ..STATIONED
-    };
-    run_lists(&lists, count)
 }

@@ -1,7 +1,7 @@
 //! The voices against the original's `seq_note_signal`, note by note.
 
 use crate::engine::{in_threads, same_values, threads, Count};
-use crate::harness::{h_note, NoteArgs};
+use crate::harness::{tono_note, NoteArgs};
 use crate::progress::Progress;
 use crate::random::{draw, Source};
 use crate::waves::{voice_of, KIT, STYLES, WAVES};
@@ -54,7 +54,7 @@ impl Note {
     pub fn ours(&self, place: u32, string: &mut [f32]) -> (Vec<f32>, u64) {
         let mut out = vec![f32::from_bits(0x7f12_3456); self.pitch.len()];
         let (mut state, mut draws) = (self.state, 0);
-        h_note(NoteArgs {
+        tono_note(NoteArgs {
             rate: self.rate,
             wave: place,
             style: self.style,

@@ -13,11 +13,12 @@ use lib.Ieee.Fits.{down-pos, mul-fits, neg-fits}
 use lib.Ieee.Exact.{HasValue}
 use Rattle.laws.proofs.If.{if-false}
 use Rattle.ieee.specs.Binary64.{_⊞_, _⊟_, _⊠_}
+use Rattle.ieee.specs.Numbers64.{d2^52}
 use Rattle.ieee.specs.Whole.{halfUp, roundOf}
 use Rattle.ieee.proofs.Nans.{plain-bits}
 use Rattle.float.proofs.Signs.{neg-whole}
 use Rattle.det.specs.Exp.{INV·LN2, ldexp2Of, lessLn2, expNear, scaled, expFrom, expReduced}
-use Rattle.det.specs.Low.{d2·52, quotient, Low}
+use Rattle.det.specs.Low.{quotient, Low}
 use Rattle.det.proofs.Sums as sums
 
 pub low-number : (x : Float) → Low x → T (not (isNan x))
@@ -63,35 +64,35 @@ module _ (x : Float) (L : Low x) where
   n-most : n ≤ 1000
   n-most = sums.n-most a fit L
 
-  k-is : neg (a ⊞ d2·52 ⊟ d2·52) ≡ roundOf (x ⊠ INV·LN2)
+  k-is : neg (a ⊞ d2^52 ⊟ d2^52) ≡ roundOf (x ⊠ INV·LN2)
   k-is = ap neg (sums.rounded a fit L) ∙ neg-whole halfUp (x ⊠ INV·LN2)
 
-  power-bits : 0x3ff0_0000_0000_0000 - toBits binary64 (a ⊞ d2·52) * 2 ^ 52 % 2 ^ 64 ≡ (1023 - n) * 2 ^ 52
+  power-bits : 0x3ff0_0000_0000_0000 - toBits binary64 (a ⊞ d2^52) * 2 ^ 52 % 2 ^ 64 ≡ (1023 - n) * 2 ^ 52
   power-bits = ap (λ (b : ℕ). 0x3ff0_0000_0000_0000 - b) (sums.field a fit L) ∙ times n n-most
     where
       times : (n : ℕ) → n ≤ 1000 → 0x3ff0_0000_0000_0000 - n * 2 ^ 52 ≡ (1023 - n) * 2 ^ 52
       times n h = omega arith
 
   k-whole : toSigned 63 (roundOf (x ⊠ INV·LN2)) ≡ negℤ (pos n)
-  k-whole = ap (toSigned 63) (sym k-is) ∙ negated (a ⊞ d2·52 ⊟ d2·52) n n-most (sums.n-value a fit L)
+  k-whole = ap (toSigned 63) (sym k-is) ∙ negated (a ⊞ d2^52 ⊟ d2^52) n n-most (sums.n-value a fit L)
 
-  power-is : ofBits binary64 (0x3ff0_0000_0000_0000 - toBits binary64 (a ⊞ d2·52) * 2 ^ 52 % 2 ^ 64) ≡ ldexp2Of (toSigned 63 (roundOf (x ⊠ INV·LN2)))
+  power-is : ofBits binary64 (0x3ff0_0000_0000_0000 - toBits binary64 (a ⊞ d2^52) * 2 ^ 52 % 2 ^ 64) ≡ ldexp2Of (toSigned 63 (roundOf (x ⊠ INV·LN2)))
   power-is = ap (ofBits binary64) power-bits ∙ power-low n n-most ∙ ap ldexp2Of (sym k-whole)
 
   -- what the code asks, and what it computes
-  pub s-number : T (not (isNan (a ⊞ d2·52)))
+  pub s-number : T (not (isNan (a ⊞ d2^52)))
   s-number = sums.s-number a fit L
 
-  pub s-room : toBits binary64 (a ⊞ d2·52) * 2 ^ 52 % 2 ^ 64 ≤ 0x3ff0_0000_0000_0000
+  pub s-room : toBits binary64 (a ⊞ d2^52) * 2 ^ 52 % 2 ^ 64 ≤ 0x3ff0_0000_0000_0000
   s-room = omega (arith, sums.field a fit L, n-most)
 
-  pub power-number : T (not (nanBits binary64 (0x3ff0_0000_0000_0000 - toBits binary64 (a ⊞ d2·52) * 2 ^ 52 % 2 ^ 64)))
-  power-number = plain-bits binary64 (0x3ff0_0000_0000_0000 - toBits binary64 (a ⊞ d2·52) * 2 ^ 52 % 2 ^ 64) (low (toBits binary64 (a ⊞ d2·52) * 2 ^ 52 % 2 ^ 64))
+  pub power-number : T (not (nanBits binary64 (0x3ff0_0000_0000_0000 - toBits binary64 (a ⊞ d2^52) * 2 ^ 52 % 2 ^ 64)))
+  power-number = plain-bits binary64 (0x3ff0_0000_0000_0000 - toBits binary64 (a ⊞ d2^52) * 2 ^ 52 % 2 ^ 64) (low (toBits binary64 (a ⊞ d2^52) * 2 ^ 52 % 2 ^ 64))
     where
       low : (b : ℕ) → (0x3ff0_0000_0000_0000 - b) % 2 ^ 63 ≤ 0x7ff0_0000_0000_0000
       low b = omega arith
 
-  pub low-is : expNear (lessLn2 x (neg (a ⊞ d2·52 ⊟ d2·52))) ⊠ ofBits binary64 (0x3ff0_0000_0000_0000 - toBits binary64 (a ⊞ d2·52) * 2 ^ 52 % 2 ^ 64) ≡ expReduced x
+  pub low-is : expNear (lessLn2 x (neg (a ⊞ d2^52 ⊟ d2^52))) ⊠ ofBits binary64 (0x3ff0_0000_0000_0000 - toBits binary64 (a ⊞ d2^52) * 2 ^ 52 % 2 ^ 64) ≡ expReduced x
   unfolding expReduced expFrom scaled
   low-is =
       if-false _ (ap (leZ (pos 1024)) k-whole ∙ one-factor n) (λ i. expNear (lessLn2 x (k-is i)) ⊠ power-is i)

@@ -12,6 +12,7 @@ use lib.Ieee.{Float, nan, inf, fin, binary64, size, ofBits, toBits, isNan, fits}
 use lib.Ieee.Exact.{HasValue}
 use lib.Ieee.Nearest.{closest}
 use Rattle.ieee.specs.Binary64.{_⊞_, _⊟_}
+use Rattle.ieee.specs.Numbers64.{d2^52}
 use Rattle.ieee.specs.Whole.{whole, halfUp}
 use Rattle.ieee.proofs.Value.{revalue, lt-value}
 use Rattle.ieee.proofs.Bounds.{lt-at-most, at-most-lt}
@@ -20,7 +21,7 @@ use Rattle.ieee.proofs.Units.{toBits-value}
 use Rattle.ieee.proofs.Quotients.{closest-one, closest-below}
 use Rattle.float.specs.Small.{Small}
 use Rattle.float.proofs.Wholes.{Parts, parts, A, C, C-pos, x-value, sum-value, nearest-is, half-taken, whole-value}
-use Rattle.det.specs.Low.{d2·52, d1000, Summed}
+use Rattle.det.specs.Low.{d1000, Summed}
 
 -- ---- the pattern of q * 2 ^ k of the smallest values, q having all 53 digits
 pattern : (q k : ℕ) → 2 ^ 52 ≤ q → q < 2 ^ 53 → 0 + (size (q * 2 ^ k) - 53) * 2 ^ 52 + q * 2 ^ k / 2 ^ (size (q * 2 ^ k) - 53) ≡ 0 + k * 2 ^ 52 + q
@@ -71,27 +72,27 @@ module _ (a : Float) (fit : T (fits binary64 a)) (L : Summed a) where
       strip : (m n : ℕ) → m * 1 < n → m < n
       strip m n h = omega arith
 
-  s-value : HasValue (a ⊞ d2·52) false (n + 2 ^ 52) 1
+  s-value : HasValue (a ⊞ d2^52) false (n + 2 ^ 52) 1
   unfolding ofBits n
   s-value = sum-value z fit
 
-  bits-are : toBits binary64 (a ⊞ d2·52) ≡ 1075 * 2 ^ 52 + n
-  bits-are = sum-bits (a ⊞ d2·52) n n-most s-value
+  bits-are : toBits binary64 (a ⊞ d2^52) ≡ 1075 * 2 ^ 52 + n
+  bits-are = sum-bits (a ⊞ d2^52) n n-most s-value
 
-  nearest : a ⊞ d2·52 ⊟ d2·52 ≡ whole closest a
+  nearest : a ⊞ d2^52 ⊟ d2^52 ≡ whole closest a
   unfolding ofBits
   nearest = nearest-is z fit
 
-  pub rounded : a ⊞ d2·52 ⊟ d2·52 ≡ whole halfUp a
+  pub rounded : a ⊞ d2^52 ⊟ d2^52 ≡ whole halfUp a
   unfolding ofBits
-  rounded = half-taken z fit (a ⊞ d2·52 ⊟ d2·52) nearest (L .near)
+  rounded = half-taken z fit (a ⊞ d2^52 ⊟ d2^52) nearest (L .near)
 
-  pub n-value : HasValue (a ⊞ d2·52 ⊟ d2·52) false n 1
+  pub n-value : HasValue (a ⊞ d2^52 ⊟ d2^52) false n 1
   unfolding n
   n-value = subst (λ (y : Float). HasValue y false (closest (A z) (C z)) 1) (sym nearest) (whole-value z fit closest closest-one)
 
-  pub field : toBits binary64 (a ⊞ d2·52) * 2 ^ 52 % 2 ^ 64 ≡ n * 2 ^ 52
+  pub field : toBits binary64 (a ⊞ d2^52) * 2 ^ 52 % 2 ^ 64 ≡ n * 2 ^ 52
   field = ap (λ (b : ℕ). b * 2 ^ 52 % 2 ^ 64) bits-are ∙ shifted n n-most
 
-  pub s-number : T (not (isNan (a ⊞ d2·52)))
-  s-number = not-nan (a ⊞ d2·52) false (n + 2 ^ 52) 1 s-value
+  pub s-number : T (not (isNan (a ⊞ d2^52)))
+  s-number = not-nan (a ⊞ d2^52) false (n + 2 ^ 52) 1 s-value

@@ -3,12 +3,8 @@ use mathlib.Core.Path.{_≡_}
 use mathlib.Core.Bool.{true}
 use lib.Ieee.{Float, binary64, ofBits, lt, neg}
 use Rattle.ieee.specs.Binary64.{_⊞_, _⊟_, _⊠_}
-use Rattle.ieee.specs.Numbers64.{d0, d0·5}
+use Rattle.ieee.specs.Numbers64.{d0, d0·5, d2^52}
 use Rattle.det.specs.Exp.{INV·LN2}
-
--- 2^52
-abbrev pub d2·52 : Float
-d2·52 = ofBits binary64 0x4330_0000_0000_0000
 
 -- 1000.0
 abbrev pub d1000 : Float
@@ -18,7 +14,7 @@ d1000 = ofBits binary64 0x408f_4000_0000_0000
 pub record Summed (a : Float) : Type 0 where
   pub positive : lt d0 a ≡ true
   pub below : lt a d1000 ≡ true
-  pub near : lt a (a ⊞ d2·52 ⊟ d2·52 ⊞ d0·5) ≡ true
+  pub near : lt a (a ⊞ d2^52 ⊟ d2^52 ⊞ d0·5) ≡ true
 
 -- -x / ln 2
 abbrev pub quotient : Float → Float

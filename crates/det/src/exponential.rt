@@ -90,7 +90,7 @@ pub fn exp_low(x: f64) -> f64
 }
 
 // Above zero: 2^n has the exponent's field 1023 + n.
-fn exp_high(x: f64) -> f64
+pub fn exp_high(x: f64) -> f64
     requires { ⌜ High x ⌝ }
     ensures { λ r. ⌜ r ≡ expReduced x ⌝ }
 {

@@ -26,7 +26,7 @@ const F11: f64 = 1.0 / 39916800.0; // 3e5ae64567f544e4
 
 // e^x − 1 near zero, with nothing cancelled: the terms x/1! to x^11/11! in Horner form, from the
 // last coefficient to the first.
-fn expm1_small(x: f64) -> f64
+pub fn expm1_small(x: f64) -> f64
     ensures { λ r. ⌜ r ≡ expm1Small x ⌝ }
 {
     let acc = F10 + x * F11;

@@ -13,7 +13,9 @@ mod single; // single.rt: the f32 wrappers
 mod special; // special.rt: infinity and NaN
 
 pub use exponential::exp;
+pub use exponential::exp_high;
 pub use exponential::exp_low;
+pub use hyperbolic::expm1_small;
 pub use hyperbolic::tanh;
 pub use logarithm::ln;
 pub use power::powf;

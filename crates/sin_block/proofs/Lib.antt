@@ -1,3 +1,4 @@
-mod Turns
+mod Quarters
 mod Cut
 mod Composed
+mod Wholes

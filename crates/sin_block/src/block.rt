@@ -60,7 +60,7 @@ fn sines(near: &[f64; 384], q: &[f64; 384], n: usize, out: &mut [f64; 384])
     }
 }
 
-fn narrowed(wide: &[f64; 384], n: usize, out: &mut [f32; 384]) -> u64
+pub fn narrowed(wide: &[f64; 384], n: usize, out: &mut [f32; 384]) -> u64
     requires { ⌜ (n ≤ 384) × (length (now out) ≡ 384) ⌝ }
     ensures { λ _. ⌜ length (now (out .exit)) ≡ 384 ⌝ }
     ensures { λ r. ⌜ (r ≡ 0 → Tabled (λ k. narrowOf (getD (now (wide .entry)) k nan)) nan 0 n (now (out .exit))) ⌝ }

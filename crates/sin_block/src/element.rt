@@ -6,10 +6,11 @@ ghost use Prim.Native.Nat.{_+_, _-_, _%_, _/_, _^_, _≤_, _<_};
 ghost use lib.Dec.{T};
 ghost use lib.Ieee.{lt, binary64, toBits, isNan};
 ghost use Rattle.ieee.specs.Narrow.{narrowOf};
-ghost use Rattle.ieee.specs.Numbers64.{d0};
-ghost use Rattle.ieee.specs.Binary64.{_⊟_, _⊠_};
+ghost use Rattle.ieee.specs.Numbers64.{d0, d0·5, d2^52};
+ghost use Rattle.ieee.specs.Binary64.{_⊞_, _⊟_, _⊠_};
 ghost use Rattle.trig.specs.Trig.{FRAC·PI·2, reduce2pi, sinReduced};
 ghost use Rattle.sin_block.specs.Nearest.{d2·5, magnitude, nearestAbove, nearestOf};
+ghost use Rattle.sin_block.specs.Whole.{summedOf, wholeOf, Sure};
 ghost use Rattle.sin_block.specs.Quarter.{polyAt, sineAt};
 
 const INV_PI2: f64 = 1.59154943091895335769e-01; // 1/(2π), 3fc45f306dc9c883
@@ -69,14 +70,56 @@ fn far(t: f64) -> u64
     outside(size(t))
 }
 
+// A sum with 2^52 has no digits after the point.
+fn summed(a: f64) -> f64
+    ensures { λ r. ⌜ r ≡ summedOf a ⌝ }
+{
+    (a + 4503599627370496.0) - 4503599627370496.0
+}
+
+// The whole number nearest to t.
+fn whole(t: f64) -> f64
+    ensures { λ r. ⌜ r ≡ wholeOf t ⌝ }
+{
+    let n = summed(size(t));
+    pick(t > 0.0, n, -n)
+}
+
+// 0 above 0.
+fn not_positive(a: f64) -> u64
+    ensures { λ r. ⌜ (r ≤ 1) × (r ≡ 0 → lt d0 a ≡ true) ⌝ }
+{
+    if a > 0.0 { 0 } else { 1 }
+}
+
+// 0 below 2^52, where a is not a half that the sum takes down.
+fn halved(a: f64) -> u64
+    ensures { λ r. ⌜ (r ≤ 1) × (r ≡ 0 → (lt a d2^52 ≡ true) × (lt a (summedOf a ⊞ d0·5) ≡ true)) ⌝ }
+{
+    let limit = summed(a) + 0.5;
+    if a < 4503599627370496.0 {
+        if a < limit { 0 } else { 1 }
+    } else {
+        1
+    }
+}
+
+// 0 where `whole` is right.
+fn unsure(t: f64) -> u64
+    ensures { λ r. ⌜ (r ≤ 2) × (r ≡ 0 → Sure (magnitude t)) ⌝ }
+{
+    let a = size(t);
+    not_positive(a) + halved(a)
+}
+
 // x less the nearest number of turns.
 pub fn turn_one(x: f32) -> Tried
     ensures { λ r. ⌜ (r .bad ≤ 2) × (r .bad ≡ 0 → r .value ≡ reduce2pi x) ⌝ }
 {
     let w = rounding::widen(x);
     let t = w * INV_PI2;
-    let value = trig::less_turns(w, nearest(t));
-    let bad = far(t);
+    let value = trig::less_turns(w, whole(t));
+    let bad = unsure(t);
     Tried { value, bad }
 }
 

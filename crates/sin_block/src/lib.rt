@@ -3,4 +3,5 @@
 mod block; // block.rt: the passes
 mod element; // element.rt: one value of each pass
 
+pub use block::narrowed;
 pub use block::sinf_block;

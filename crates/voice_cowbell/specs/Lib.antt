@@ -1,1 +1,2 @@
 pub mod Cowbell
+pub mod Mixed

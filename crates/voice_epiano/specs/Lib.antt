@@ -1,2 +1,2 @@
+pub mod Bent
 pub mod Epiano
-pub mod Faded

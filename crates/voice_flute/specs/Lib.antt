@@ -1,1 +1,2 @@
+pub mod Breathed
 pub mod Flute

@@ -1,3 +1,4 @@
 mod Organ
 mod Same
+mod Mixes
 pub mod Bars

@@ -1,1 +1,2 @@
 pub mod Organ
+pub mod Mixed

@@ -1,1 +1,3 @@
 mod Modulation
+mod Stepped
+mod Levels

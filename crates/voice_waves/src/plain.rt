@@ -1,12 +1,15 @@
 // The sawtooth and the sine, whose state is one phase and which need nothing but their pitch. The
-// sawtooth's one jump a period is smoothed by its residual, which keeps it from aliasing. Each has a loop for the hop 1, where
-// the place of a value needs no product (`_each`), and one for any hop (`_any`).
+// sawtooth's one jump a period is smoothed by its residual, which keeps it from aliasing. In blocks of 64 frames: the
+// steps of the phase first, and then the frames.
 ghost use mathlib.Core.Path.{_≡_};
-ghost use lib.ListN.{length};
-ghost use Rattle.dsl.specs.Domain.{Frames};
+ghost use Prim.Native.Nat.{_+_, _-_, _≤_};
+ghost use lib.ListN.{length, getD};
+ghost use lib.Ieee.{nan};
+ghost use Rattle.blocks.proofs.Block.{Ran};
 ghost use Rattle.dsl.specs.Pitch.{pitchAt, reaches};
-ghost use Rattle.voice_waves.specs.Plain.{sawtoothAt, sawtoothFrames, sineAt, sineFrames};
-use crate::each::each_at;
+ghost use Rattle.voice_waves.specs.Plain.{sawtoothFrames, sineFrames};
+ghost use Rattle.voice_waves.specs.Stepped.{sawtoothBy, sineBy};
+use crate::steps::steps;
 use dsl::Reading;
 use osc::Shape;
 
@@ -16,102 +19,84 @@ pub struct PhaseOut {
     pub state: f32,
 }
 
-fn sawtooth_at(fi: f32, srf: f32, phase: f32) -> PhaseOut
-    ensures { λ r. ⌜ r ≡ sawtoothAt fi srf phase ⌝ }
+fn sawtooth_by(dt: f32, phase: f32) -> PhaseOut
+    ensures { λ r. ⌜ r ≡ sawtoothBy dt phase ⌝ }
 {
-    let dt = osc::phase_step(fi, srf);
     PhaseOut {
         sample: osc::saw(phase, dt),
         state: osc::wrap(phase + dt),
     }
 }
 
-fn sawtooth_each(pitch: Reading, lane: &[f32], srf: f32, out: &mut [f32])
-    requires { ⌜ pitch .hop ≡ 1 ⌝ }
-    requires { ⌜ reaches pitch (length (now lane)) (length (now out)) ⌝ }
-    ensures { λ _. ⌜ now (out .exit) ≡ sawtoothFrames (pitchAt pitch (now (lane .entry))) srf (length (now (out .entry))) ⌝ }
+fn sawtooth_block(dt: &[f32; 64], from: usize, end: usize, start: f32, out: &mut [f32]) -> f32
+    requires { ⌜ (from ≤ end) × (end ≤ from + 64) × (end ≤ length (now out)) ⌝ }
+    ensures { λ r. ⌜ Ran (λ x i. sawtoothBy x) (λ o. o .sample) (λ o. o .state)
+        (λ i. getD (now (dt .entry)) (i - from) nan) from end (now (out .entry)) start end (now (out .exit)) r ⌝ }
 {
-    let mut s = 0.0f32;
-    let mut i = 0usize;
-    while i < out.len() {
-        let r = sawtooth_at(each_at(pitch, lane, i), srf, s);
+    let mut s = start;
+    let mut i = from;
+    while i < end {
+        let r = sawtooth_by(dt[i - from], s);
         out[i] = r.sample;
         s = r.state;
         i += 1;
     }
-}
-
-fn sawtooth_any(pitch: Reading, lane: &[f32], srf: f32, out: &mut [f32])
-    requires { ⌜ reaches pitch (length (now lane)) (length (now out)) ⌝ }
-    ensures { λ _. ⌜ now (out .exit) ≡ sawtoothFrames (pitchAt pitch (now (lane .entry))) srf (length (now (out .entry))) ⌝ }
-{
-    let mut s = 0.0f32;
-    let mut i = 0usize;
-    while i < out.len() {
-        let r = sawtooth_at(pitch.at(lane, i), srf, s);
-        out[i] = r.sample;
-        s = r.state;
-        i += 1;
-    }
+    s
 }
 
 pub fn sawtooth(pitch: Reading, lane: &[f32], srf: f32, out: &mut [f32])
     requires { ⌜ reaches pitch (length (now lane)) (length (now out)) ⌝ }
     ensures { λ _. ⌜ now (out .exit) ≡ sawtoothFrames (pitchAt pitch (now (lane .entry))) srf (length (now (out .entry))) ⌝ }
 {
-    if pitch.hop == 1 {
-        sawtooth_each(pitch, lane, srf, out);
-    } else {
-        sawtooth_any(pitch, lane, srf, out);
+    let mut s = 0.0f32;
+    let mut f = [0.0f32; 64];
+    let mut dt = [0.0f32; 64];
+    let mut i = 0usize;
+    while i < out.len() {
+        let end = frame_block::block_end(i, out.len());
+        steps(pitch, lane, srf, i, end, &mut f, &mut dt);
+        s = sawtooth_block(&dt, i, end, s, out);
+        i = end;
     }
 }
 
-fn sine_at(fi: f32, srf: f32, phase: f32) -> PhaseOut
-    ensures { λ r. ⌜ r ≡ sineAt fi srf phase ⌝ }
+fn sine_by(dt: f32, phase: f32) -> PhaseOut
+    ensures { λ r. ⌜ r ≡ sineBy dt phase ⌝ }
 {
-    let dt = osc::phase_step(fi, srf);
     PhaseOut {
         sample: osc::osc(Shape::Sine, phase),
         state: osc::wrap(phase + dt),
     }
 }
 
-fn sine_each(pitch: Reading, lane: &[f32], srf: f32, out: &mut [f32])
-    requires { ⌜ pitch .hop ≡ 1 ⌝ }
-    requires { ⌜ reaches pitch (length (now lane)) (length (now out)) ⌝ }
-    ensures { λ _. ⌜ now (out .exit) ≡ sineFrames (pitchAt pitch (now (lane .entry))) srf (length (now (out .entry))) ⌝ }
+fn sine_block(dt: &[f32; 64], from: usize, end: usize, start: f32, out: &mut [f32]) -> f32
+    requires { ⌜ (from ≤ end) × (end ≤ from + 64) × (end ≤ length (now out)) ⌝ }
+    ensures { λ r. ⌜ Ran (λ x i. sineBy x) (λ o. o .sample) (λ o. o .state)
+        (λ i. getD (now (dt .entry)) (i - from) nan) from end (now (out .entry)) start end (now (out .exit)) r ⌝ }
 {
-    let mut s = 0.0f32;
-    let mut i = 0usize;
-    while i < out.len() {
-        let r = sine_at(each_at(pitch, lane, i), srf, s);
+    let mut s = start;
+    let mut i = from;
+    while i < end {
+        let r = sine_by(dt[i - from], s);
         out[i] = r.sample;
         s = r.state;
         i += 1;
     }
-}
-
-fn sine_any(pitch: Reading, lane: &[f32], srf: f32, out: &mut [f32])
-    requires { ⌜ reaches pitch (length (now lane)) (length (now out)) ⌝ }
-    ensures { λ _. ⌜ now (out .exit) ≡ sineFrames (pitchAt pitch (now (lane .entry))) srf (length (now (out .entry))) ⌝ }
-{
-    let mut s = 0.0f32;
-    let mut i = 0usize;
-    while i < out.len() {
-        let r = sine_at(pitch.at(lane, i), srf, s);
-        out[i] = r.sample;
-        s = r.state;
-        i += 1;
-    }
+    s
 }
 
 pub fn sine(pitch: Reading, lane: &[f32], srf: f32, out: &mut [f32])
     requires { ⌜ reaches pitch (length (now lane)) (length (now out)) ⌝ }
     ensures { λ _. ⌜ now (out .exit) ≡ sineFrames (pitchAt pitch (now (lane .entry))) srf (length (now (out .entry))) ⌝ }
 {
-    if pitch.hop == 1 {
-        sine_each(pitch, lane, srf, out);
-    } else {
-        sine_any(pitch, lane, srf, out);
+    let mut s = 0.0f32;
+    let mut f = [0.0f32; 64];
+    let mut dt = [0.0f32; 64];
+    let mut i = 0usize;
+    while i < out.len() {
+        let end = frame_block::block_end(i, out.len());
+        steps(pitch, lane, srf, i, end, &mut f, &mut dt);
+        s = sine_block(&dt, i, end, s, out);
+        i = end;
     }
 }

@@ -1,15 +1,20 @@
 // The square and the triangle: two jumps a period, each smoothed by its residual, which keeps it from
-// aliasing. The triangle is the square summed up, with a leak that keeps the sum about zero. Each has a loop for the hop 1,
-// where the place of a value needs no product (`_each`), and one for any hop (`_any`).
+// aliasing. The triangle is the square summed up, with a leak that keeps the sum about zero. In blocks of 64 frames: the
+// steps of the phase and the duties first, and then the frames.
 ghost use mathlib.Core.Path.{_≡_};
-ghost use lib.ListN.{length};
-ghost use lib.Ieee.{binary32};
+ghost use Prim.Native.Nat.{_+_, _-_, _≤_};
+ghost use lib.ListN.{length, getD};
+ghost use lib.Ieee.{binary32, nan};
+ghost use Rattle.blocks.proofs.Block.{Tabled, Ran};
+ghost use Rattle.ieee.specs.Numbers.{c0·01};
+ghost use Rattle.ieee.specs.Order.{clampOf};
 ghost use Rattle.ieee.specs.Whole.{fractOf};
-ghost use Rattle.dsl.specs.Domain.{Frames};
 ghost use Rattle.dsl.specs.Pitch.{pitchAt, reaches};
-ghost use Rattle.voice_waves.specs.Pulse.{pulseLevel, pulseOf, squareAt, squareFrames, triangleAt, triangleFrames};
-use crate::each::each_at;
+ghost use Rattle.voice_waves.specs.Pulse.{c0·99, pulseLevel, pulseOf, squareFrames, triangleFrames};
+ghost use Rattle.voice_waves.specs.Stepped.{squareBy, triangleBy};
+use crate::each::read;
 use crate::plain::PhaseOut;
+use crate::steps::steps;
 use dsl::Reading;
 
 // 1 before the second jump, -1 after it.
@@ -19,11 +24,17 @@ fn level(phase: f32, duty: f32) -> f32
     if phase < duty { 1.0 } else { -1.0 }
 }
 
-// The level with both jumps smoothed; `second` is the phase counted from the second jump.
+// The level with both jumps smoothed; `second` is the phase counted from the second jump. Most frames
+// are at no jump: both residuals are 0.
 fn pulse(phase: f32, duty: f32, second: f32, dt: f32) -> f32
     ensures { λ r. ⌜ r ≡ pulseOf phase duty second dt ⌝ }
 {
-    level(phase, duty) + osc::poly_blep(phase, dt) - osc::poly_blep(second, dt)
+    let v = level(phase, duty);
+    let high = 1.0 - dt;
+    if phase < dt || phase > high || second < dt || second > high {
+        return v + osc::poly_blep(phase, dt) - osc::poly_blep(second, dt);
+    }
+    v
 }
 
 // x less its whole part. Above 0 that part is the floor, which `osc::wrap` takes off.
@@ -36,61 +47,66 @@ fn fract(x: f32) -> f32
     float::fract_f32(x)
 }
 
-fn square_at(fi: f32, di: f32, srf: f32, phase: f32) -> PhaseOut
-    ensures { λ r. ⌜ r ≡ squareAt fi di srf phase ⌝ }
+// The widths of 64 duties.
+fn widths_of(d: &[f32; 64], w: &mut [f32; 64])
+    requires { ⌜ length (now w) ≡ 64 ⌝ }
+    ensures { λ _. ⌜ (length (now (w .exit)) ≡ 64) × Tabled (λ k. clampOf (getD (now (d .entry)) k nan) c0·01 c0·99) nan 0 64 (now (w .exit)) ⌝ }
 {
-    let dt = osc::phase_step(fi, srf);
-    let width = float::clamp_f32(di, 0.01, 0.99);
+    let mut k = 0usize;
+    while k < 64 {
+        w[k] = float::clamp_f32(d[k], 0.01, 0.99);
+        k += 1;
+    }
+}
+
+// The widths of a block's frames; d is lent for their duties.
+fn widths(
+    duty: Reading,
+    duties: &[f32],
+    from: usize,
+    end: usize,
+    d: &mut [f32; 64],
+    w: &mut [f32; 64],
+)
+    requires { ⌜ (from ≤ end) × (end ≤ from + 64) × (length (now d) ≡ 64) × (length (now w) ≡ 64) ⌝ }
+    requires { ⌜ reaches duty (length (now duties)) end ⌝ }
+    ensures { λ _. ⌜ (length (now (d .exit)) ≡ 64) × (length (now (w .exit)) ≡ 64) ⌝ }
+    ensures { λ _. ⌜ Tabled (λ i. clampOf (pitchAt duty (now (duties .entry)) i) c0·01 c0·99) nan from end (now (w .exit)) ⌝ }
+{
+    read(duty, duties, from, end, d);
+    widths_of(d, w);
+}
+
+fn square_by(dt: f32, width: f32, phase: f32) -> PhaseOut
+    ensures { λ r. ⌜ r ≡ squareBy (record { step = dt; width = width }) phase ⌝ }
+{
     PhaseOut {
         sample: pulse(phase, width, fract(phase - width + 1.0), dt),
         state: osc::wrap(phase + dt),
     }
 }
 
-fn square_each(
-    pitch: Reading,
-    lane: &[f32],
-    duty: Reading,
-    duties: &[f32],
-    srf: f32,
+fn square_block(
+    dt: &[f32; 64],
+    w: &[f32; 64],
+    from: usize,
+    end: usize,
+    start: f32,
     out: &mut [f32],
-)
-    requires { ⌜ pitch .hop ≡ 1 ⌝ }
-    requires { ⌜ duty .hop ≡ 1 ⌝ }
-    requires { ⌜ reaches pitch (length (now lane)) (length (now out)) ⌝ }
-    requires { ⌜ reaches duty (length (now duties)) (length (now out)) ⌝ }
-    ensures { λ _. ⌜ now (out .exit) ≡ squareFrames (pitchAt pitch (now (lane .entry))) (pitchAt duty (now (duties .entry))) srf (length (now (out .entry))) ⌝ }
+) -> f32
+    requires { ⌜ (from ≤ end) × (end ≤ from + 64) × (end ≤ length (now out)) ⌝ }
+    ensures { λ r. ⌜ Ran (λ x i. squareBy x) (λ o. o .sample) (λ o. o .state)
+        (λ i. record { step = getD (now (dt .entry)) (i - from) nan; width = getD (now (w .entry)) (i - from) nan }) from end (now (out .entry)) start end (now (out .exit)) r ⌝ }
 {
-    let mut s = 0.0f32;
-    let mut i = 0usize;
-    while i < out.len() {
-        let r = square_at(each_at(pitch, lane, i), each_at(duty, duties, i), srf, s);
+    let mut s = start;
+    let mut i = from;
+    while i < end {
+        let r = square_by(dt[i - from], w[i - from], s);
         out[i] = r.sample;
         s = r.state;
         i += 1;
     }
-}
-
-fn square_any(
-    pitch: Reading,
-    lane: &[f32],
-    duty: Reading,
-    duties: &[f32],
-    srf: f32,
-    out: &mut [f32],
-)
-    requires { ⌜ reaches pitch (length (now lane)) (length (now out)) ⌝ }
-    requires { ⌜ reaches duty (length (now duties)) (length (now out)) ⌝ }
-    ensures { λ _. ⌜ now (out .exit) ≡ squareFrames (pitchAt pitch (now (lane .entry))) (pitchAt duty (now (duties .entry))) srf (length (now (out .entry))) ⌝ }
-{
-    let mut s = 0.0f32;
-    let mut i = 0usize;
-    while i < out.len() {
-        let r = square_at(pitch.at(lane, i), duty.at(duties, i), srf, s);
-        out[i] = r.sample;
-        s = r.state;
-        i += 1;
-    }
+    s
 }
 
 // The duty is read at every frame.
@@ -106,10 +122,17 @@ pub fn square(
     requires { ⌜ reaches duty (length (now duties)) (length (now out)) ⌝ }
     ensures { λ _. ⌜ now (out .exit) ≡ squareFrames (pitchAt pitch (now (lane .entry))) (pitchAt duty (now (duties .entry))) srf (length (now (out .entry))) ⌝ }
 {
-    if pitch.hop == 1 && duty.hop == 1 {
-        square_each(pitch, lane, duty, duties, srf, out);
-    } else {
-        square_any(pitch, lane, duty, duties, srf, out);
+    let mut s = 0.0f32;
+    let mut f = [0.0f32; 64];
+    let mut dt = [0.0f32; 64];
+    let mut w = [0.0f32; 64];
+    let mut i = 0usize;
+    while i < out.len() {
+        let end = frame_block::block_end(i, out.len());
+        steps(pitch, lane, srf, i, end, &mut f, &mut dt);
+        widths(duty, duties, i, end, &mut f, &mut w);
+        s = square_block(&dt, &w, i, end, s, out);
+        i = end;
     }
 }
 
@@ -123,10 +146,9 @@ pub struct TriangleOut {
     pub state: TriangleState,
 }
 
-fn triangle_at(fi: f32, srf: f32, s: TriangleState) -> TriangleOut
-    ensures { λ r. ⌜ r ≡ triangleAt fi srf s ⌝ }
+fn triangle_by(dt: f32, s: TriangleState) -> TriangleOut
+    ensures { λ r. ⌜ r ≡ triangleBy dt s ⌝ }
 {
-    let dt = osc::phase_step(fi, srf);
     let sq = pulse(s.phase, 0.5, fract(s.phase + 0.5), dt);
     let tri = s.tri * 0.9995 + 4.0 * dt * sq;
     TriangleOut {
@@ -138,39 +160,26 @@ fn triangle_at(fi: f32, srf: f32, s: TriangleState) -> TriangleOut
     }
 }
 
-fn triangle_each(pitch: Reading, lane: &[f32], srf: f32, out: &mut [f32])
-    requires { ⌜ pitch .hop ≡ 1 ⌝ }
-    requires { ⌜ reaches pitch (length (now lane)) (length (now out)) ⌝ }
-    ensures { λ _. ⌜ now (out .exit) ≡ triangleFrames (pitchAt pitch (now (lane .entry))) srf (length (now (out .entry))) ⌝ }
+fn triangle_block(
+    dt: &[f32; 64],
+    from: usize,
+    end: usize,
+    start: TriangleState,
+    out: &mut [f32],
+) -> TriangleState
+    requires { ⌜ (from ≤ end) × (end ≤ from + 64) × (end ≤ length (now out)) ⌝ }
+    ensures { λ r. ⌜ Ran (λ x i. triangleBy x) (λ o. o .sample) (λ o. o .state)
+        (λ i. getD (now (dt .entry)) (i - from) nan) from end (now (out .entry)) start end (now (out .exit)) r ⌝ }
 {
-    let mut s = TriangleState {
-        phase: 0.0,
-        tri: 0.0,
-    };
-    let mut i = 0usize;
-    while i < out.len() {
-        let r = triangle_at(each_at(pitch, lane, i), srf, s);
+    let mut s = start;
+    let mut i = from;
+    while i < end {
+        let r = triangle_by(dt[i - from], s);
         out[i] = r.sample;
         s = r.state;
         i += 1;
     }
-}
-
-fn triangle_any(pitch: Reading, lane: &[f32], srf: f32, out: &mut [f32])
-    requires { ⌜ reaches pitch (length (now lane)) (length (now out)) ⌝ }
-    ensures { λ _. ⌜ now (out .exit) ≡ triangleFrames (pitchAt pitch (now (lane .entry))) srf (length (now (out .entry))) ⌝ }
-{
-    let mut s = TriangleState {
-        phase: 0.0,
-        tri: 0.0,
-    };
-    let mut i = 0usize;
-    while i < out.len() {
-        let r = triangle_at(pitch.at(lane, i), srf, s);
-        out[i] = r.sample;
-        s = r.state;
-        i += 1;
-    }
+    s
 }
 
 // A square wave summed up, with a leak that keeps the sum about zero.
@@ -178,9 +187,17 @@ pub fn triangle(pitch: Reading, lane: &[f32], srf: f32, out: &mut [f32])
     requires { ⌜ reaches pitch (length (now lane)) (length (now out)) ⌝ }
     ensures { λ _. ⌜ now (out .exit) ≡ triangleFrames (pitchAt pitch (now (lane .entry))) srf (length (now (out .entry))) ⌝ }
 {
-    if pitch.hop == 1 {
-        triangle_each(pitch, lane, srf, out);
-    } else {
-        triangle_any(pitch, lane, srf, out);
+    let mut s = TriangleState {
+        phase: 0.0,
+        tri: 0.0,
+    };
+    let mut f = [0.0f32; 64];
+    let mut dt = [0.0f32; 64];
+    let mut i = 0usize;
+    while i < out.len() {
+        let end = frame_block::block_end(i, out.len());
+        steps(pitch, lane, srf, i, end, &mut f, &mut dt);
+        s = triangle_block(&dt, i, end, s, out);
+        i = end;
     }
 }

@@ -1,61 +1,27 @@
--- `voice_cowbell::cowbell` meets its contract: the loop fills `out` by the law `Filled`, with no state. Assumes nothing.
-use Prim.Native.Nat.{ℕ, _-_}
+-- `voice_cowbell::cowbell` meets its contract. Assumes nothing.
 use native.Mathlib.Omega.{arith}
-use borrow.Author.Needs.{needs}
-use lib.ListN.{length}
-use Rattle.laws.proofs.Fill.{Filled, filled-none, filled-more, filled-frames, filled-length}
-use Rattle.dsl.specs.Pitch.{pitchAt}
+use mathlib.Core.Path.{refl}
+use Rattle.blocks.proofs.Carried.{carried-then, carried-all, carried-note}
 use Rattle.dsl.proofs.Reach.{reaches-less}
-use Rattle.voice_cowbell.specs.Cowbell.{cowbellAt, cowbellFrames}
+use Rattle.voice_cowbell.specs.Cowbell.{cowbellFrames}
+use borrow.Author.Needs.{needs}
 use Rattle.voice_cowbell.proofs.cowbell.Statement.{statement}
 use Rattle.voice_cowbell.proofs.cowbell.Tie as tie
 
-abbrev Inv-loop : tie.InvT-loop
-Inv-loop pitch lane srf out₀ i₀ out i = Filled (λ i (s : ℕ). cowbellAt (pitchAt pitch lane i) srf i) (λ r. r) (λ r. 0) 0 out₀ i out 0
+cowbell-rest-requires : tie.Need-cowbell-rest-requires
+cowbell-rest-requires c κs =
+    let p = c .before .before .before .before .before .before .before .before in
+    let k = c .before .before .before .cowbell-blocks .ensures .kept in
+    let w = c .before .before .before .before .before .whole-blocks .ensures in
+    (omega (arith, w .0, k), (reaches-less (p .args .pitch) _ _ _ (p .pre .0) (omega (arith, k)), record { most = omega (arith, k, p .pre .1 .most) }))
 
-abbrev μ-loop : tie.MeasureT-loop
-μ-loop pitch lane srf out₀ i₀ out i = length out₀ - i
-
-loop-holds : tie.Need-loop-holds Inv-loop μ-loop
-loop-holds c = filled-none
-
-at-requires : tie.Need-at-requires Inv-loop μ-loop
-at-requires c κs = reaches-less (c .before .before .before .before .args .pitch) _ _ _ (c .before .before .before .before .pre .0) (omega (arith, filled-length (c .before .loop .inv)))
-
-cowbell-at-requires : tie.Need-cowbell-at-requires Inv-loop μ-loop
-cowbell-at-requires c κs = record { most = omega (arith, filled-length (c .before .before .loop .inv), c .before .before .before .before .before .pre .1 .most) }
-
-slice-write-out : tie.Need-slice-write-out Inv-loop μ-loop
-slice-write-out c = omega (arith, filled-length (c .before .before .before .loop .inv))
-
-loop-less : tie.Need-loop-less Inv-loop μ-loop
-loop-less c = omega (arith, filled-length (c .before .before .before .loop .inv))
-
-loop-again : tie.Need-loop-again Inv-loop μ-loop
-loop-again c =
-    let inv = c .before .before .before .loop .inv in
-    filled-more inv (omega (arith, filled-length inv)) (rw (c .before .at .ensures) at (c .cowbell-at .ensures))
-
-same-length : tie.Need-same-length Inv-loop μ-loop
-same-length c = filled-length (c .before .loop .inv)
-
-returns : tie.Need-returns Inv-loop μ-loop
+returns : tie.Need-returns
 unfolding cowbellFrames
-returns c = filled-frames (c .before .loop .inv) (omega (arith, filled-length (c .before .loop .inv))) (omega arith)
+returns c =
+    let first = c .before .before .before .before .before .before .cowbell-blocks .ensures in
+    carried-note (carried-then first (carried-all (c .before .before .cowbell-rest .ensures) (first .kept))) refl
 
 pub cowbell-spec : {M : Type 1} → statement M
 cowbell-spec =
     tie.close
-    (tie.spec
-    Inv-loop
-    μ-loop
-    loop-holds
-    at-requires
-    cowbell-at-requires
-    (λ c. search needs)
-    slice-write-out
-    (λ c. search needs)
-    loop-less
-    loop-again
-    same-length
-    returns)
+    (tie.spec (λ c κs. search needs) (λ c κs. search needs) cowbell-rest-requires (λ c. search needs) returns)

@@ -1,62 +1,32 @@
--- `voice_organ::organ_note` meets its contract: the loop fills `out` by the law `Filled`. Assumes nothing.
-use Prim.Native.Nat.{_-_}
+-- `voice_organ::organ_note` meets its contract. Assumes nothing.
 use native.Mathlib.Omega.{arith}
-use borrow.Author.Needs.{needs}
+use mathlib.Core.Path.{refl}
 use lib.ListN.{length}
-use Rattle.laws.proofs.Fill.{Filled, filled-none, filled-more, filled-frames, filled-length}
+use Rattle.blocks.proofs.Carried.{carried-then, carried-all, carried-note}
 use Rattle.dsl.specs.Pitch.{pitchAt}
 use Rattle.dsl.proofs.Reach.{reaches-less}
-use Rattle.voice_organ.specs.Organ.{organNorm, organAt, organFrames}
+use Rattle.voice_organ.proofs.Mixes.{organ-frames}
+use borrow.Author.Needs.{needs}
 use Rattle.voice_organ.proofs.organ_note.Statement.{statement}
 use Rattle.voice_organ.proofs.organ_note.Tie as tie
 
-abbrev Inv-loop : tie.InvT-loop
-Inv-loop bars pitch lane srf out₀ norm s₀ i₀ out s i = Filled (λ i. organAt bars (organNorm bars) (pitchAt pitch lane i) srf i) (λ r. r .sample) (λ r. r .state) s₀ out₀ i out s
+organ-rest-requires : tie.Need-organ-rest-requires
+organ-rest-requires c κs =
+    let p = c .before .before .before .before .before .before .before .before .before in
+    let k = c .before .before .before .organ-blocks .ensures .kept in
+    let w = c .before .before .before .before .before .whole-blocks .ensures in
+    (omega (arith, w .0, k), (reaches-less (p .args .pitch) _ _ _ (p .pre .0) (omega (arith, k)), record { most = omega (arith, k, p .pre .1 .most) }))
 
-abbrev μ-loop : tie.MeasureT-loop
-μ-loop bars pitch lane srf out₀ norm s₀ i₀ out s i = length out₀ - i
-
-loop-holds : tie.Need-loop-holds Inv-loop μ-loop
-loop-holds c = filled-none
-
-at-requires : tie.Need-at-requires Inv-loop μ-loop
-at-requires c κs = reaches-less (c .before .before .before .before .before .args .pitch) _ _ _ (c .before .before .before .before .before .pre .0) (omega (arith, filled-length (c .before .loop .inv)))
-
-organ-at-requires : tie.Need-organ-at-requires Inv-loop μ-loop
-organ-at-requires c κs = record { most = omega (arith, filled-length (c .before .before .loop .inv), c .before .before .before .before .before .before .pre .1 .most) }
-
-slice-write-out : tie.Need-slice-write-out Inv-loop μ-loop
-slice-write-out c = omega (arith, filled-length (c .before .before .before .loop .inv))
-
-loop-less : tie.Need-loop-less Inv-loop μ-loop
-loop-less c = omega (arith, filled-length (c .before .before .before .loop .inv))
-
-loop-again : tie.Need-loop-again Inv-loop μ-loop
-loop-again c =
-    let inv = c .before .before .before .loop .inv in
-    filled-more inv (omega (arith, filled-length inv)) (rw (c .before .before .before .before .norm-of .ensures, c .before .at .ensures) at (c .organ-at .ensures))
-
-same-length : tie.Need-same-length Inv-loop μ-loop
-same-length c = filled-length (c .before .loop .inv)
-
-returns : tie.Need-returns Inv-loop μ-loop
-unfolding organFrames
-returns c = filled-frames (c .before .loop .inv) (omega (arith, filled-length (c .before .loop .inv))) (omega arith)
+returns : tie.Need-returns
+returns c =
+    let b6 = c .before .before .before .before .before .before in
+    let b9 = b6 .before .before .before in
+    let p = b9 .before .before .before in
+    let first = b6 .organ-blocks .ensures in
+    organ-frames (p .args .bars) (pitchAt (p .args .pitch) (p .args .lane .now)) (p .args .srf) (length (p .args .out .now)) (b9 .norm-of .ensures)
+    (carried-note (carried-then first (carried-all (c .before .before .organ-rest .ensures) (first .kept))) refl)
 
 pub organ-note-spec : {M : Type 1} → statement M
 organ-note-spec =
     tie.close
-    (tie.spec
-    Inv-loop
-    μ-loop
-    (λ c κs. tt)
-    loop-holds
-    at-requires
-    organ-at-requires
-    (λ c. search needs)
-    slice-write-out
-    (λ c. search needs)
-    loop-less
-    loop-again
-    same-length
-    returns)
+    (tie.spec (λ c κs. search needs) (λ c κs. search needs) (λ c κs. search needs) organ-rest-requires (λ c. search needs) returns)

@@ -1,6 +1,6 @@
 -- `sin_block::element::quarter_one` meets its contract. Assumes nothing.
 use native.Mathlib.Omega.{arith}
-use Rattle.sin_block.proofs.Turns.{quartered}
+use Rattle.sin_block.proofs.Quarters.{quartered}
 use borrow.Author.Needs.{needs}
 use Rattle.sin_block.proofs.element.quarter_one.Statement.{statement}
 use Rattle.sin_block.proofs.element.quarter_one.Tie as tie
