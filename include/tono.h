@@ -154,7 +154,7 @@ int64_t tono_play(const uint8_t *score, size_t score_len, uint8_t *reply, size_t
  *
  * The score is lent as to tono_play, draws points to a uint64_t that does not overlap it, and you must make
  * sure of the same. The call keeps no state, allocates nothing, makes no system call and always returns. It
- * uses up to 14,648 bytes of stack, measured on an example of every wave. */
+ * uses up to 14,840 bytes of stack, measured on an example of every wave. */
 int64_t tono_plan(const uint8_t *score, size_t score_len, uint64_t *draws);
 
 /* The length in bytes of the longest cue sheet: 73 for each of 256 notes, and four form feeds. With a page of
@@ -182,7 +182,7 @@ int64_t tono_plan(const uint8_t *score, size_t score_len, uint64_t *draws);
  * A form feed (0C) follows each 60 lines if more notes follow.
  *
  * Score and page are lent as the score and the reply are to tono_play, and you must make sure of the same. The
- * call keeps no state, allocates nothing, makes no system call and always returns. It uses up to 19,832 bytes
+ * call keeps no state, allocates nothing, makes no system call and always returns. It uses up to 20,024 bytes
  * of stack, measured on an example of every wave. */
 int64_t tono_cue_sheet(const uint8_t *score, size_t score_len, uint8_t *page, size_t page_len);
 
@@ -239,7 +239,7 @@ double tono_exp(double x);
  * give each thread a session of its own, or let one call at a time use a session. Only plans, which write no
  * count, may share a session. They need the floating-point mode that a program starts with, as tono_exp does.
  *
- * Stack: tono_render_seq uses up to 27,656 bytes, tono_planned_draws 9,432 and tono_note 18,488, measured on
+ * Stack: tono_render_seq uses up to 27,656 bytes, tono_planned_draws 9,304 and tono_note 18,488, measured on
  * every wave and style (compare/robust/stack.c). Give a thread that calls them 64 KiB or more beyond its own
  * needs. */
 

@@ -5,7 +5,7 @@ use mathlib.Core.List.{List}
 use native.Mathlib.Omega.{arith}
 use lib.ListN.{length, take, drop, length-append}
 use lib.Seq.{length-take-le}
-use Rattle.text.proofs.Refused.{refusal-long}
+use Rattle.text_judge.proofs.Refused.{refusal-long}
 use Rattle.text_sheet.specs.TextSheet.{SheetResult, refused, accepted, textSheet, answerOf, pageAfter, SheetPrinted}
 use Rattle.text_sheet.specs.declared.sheet.Sheet.{Sheet}
 use Rattle.text_sheet.specs.declared.sheet.Sheet.the-variants.{Bytes, Refused}

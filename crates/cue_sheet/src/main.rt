@@ -6,14 +6,9 @@ ghost use lib.ListN.{length};
 ghost use Rattle.cue_sheet.specs.Input.{written, InputPrinted};
 use libc::STDIN_FILENO;
 use libc::STDOUT_FILENO;
+use programs::input_buffer;
+use programs::print_refusal;
 use text_sheet::Sheet;
-
-// A text score has at most 65,536 bytes; the one more shows that the input is longer.
-fn score_buffer() -> [u8; 65537]
-    ensures { λ r. ⌜ 65537 ≡ length r ⌝ }
-{
-    [0u8; 65537]
-}
 
 // As long as the longest sheet: 73 bytes for each of 256 notes, and four form feeds.
 fn page_buffer() -> [u8; 18692]
@@ -33,12 +28,6 @@ fn print_input(score: &mut [u8], page: &mut [u8]) -> Sheet
     text_sheet::sheet_text(&score[..read], page)
 }
 
-fn print_refusal(number: u32) {
-    io::write_all(STDOUT_FILENO, b"R\t");
-    io::print_decimal(STDOUT_FILENO, number as u64);
-    io::write_all(STDOUT_FILENO, b"\n");
-}
-
 fn answer(said: Sheet, page: &[u8])
     requires { ⌜ written said ≤ length (now page) ⌝ }
 {
@@ -46,12 +35,12 @@ fn answer(said: Sheet, page: &[u8])
         Sheet::Bytes(length) => {
             io::write_all(STDOUT_FILENO, &page[..length]);
         }
-        Sheet::Refused(number) => print_refusal(number),
+        Sheet::Refused(number) => print_refusal(STDOUT_FILENO, number),
     }
 }
 
 fn main() {
-    let mut score = score_buffer();
+    let mut score = input_buffer();
     let mut page = page_buffer();
     let said = print_input(&mut score, &mut page);
     answer(said, &page);

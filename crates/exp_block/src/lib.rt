@@ -2,20 +2,13 @@
 ghost use mathlib.Core.Path.{_≡_};
 ghost use Prim.Native.Nat.{ℕ, _<_, _≤_};
 ghost use lib.ListN.{length, getD};
-ghost use mathlib.Core.Bool.{true};
-ghost use lib.Ieee.{nan, lt};
+ghost use lib.Ieee.{nan};
 ghost use Rattle.blocks.proofs.Block.{Tabled};
 ghost use Rattle.det.specs.Single.{expfOf};
 ghost use Rattle.exp_fall.specs.Falling.{Falling};
+use select::not_below;
 
 const INV_LN2: f64 = 1.44269504088896340735992468100189214; // LOG2_E, 3ff71547652b82fe
-
-// A test, 0 where it is passed. None is jumped over, so that the loop over them has no branch.
-fn not_below(x: f64, limit: f64) -> u64
-    ensures { λ r. ⌜ (r ≤ 1) × (r ≡ 0 → lt x limit ≡ true) ⌝ }
-{
-    if x < limit { 0 } else { 1 }
-}
 
 // 0 for the exponential of a decay.
 fn outside(x: f64) -> u64

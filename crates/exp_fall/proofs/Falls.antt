@@ -17,6 +17,7 @@ use lib.Ieee.Exact.{HasValue}
 use Rattle.laws.proofs.If.{if-false}
 use Rattle.ieee.specs.Binary64.{_⊠_}
 use Rattle.ieee.specs.Sign.{signOf}
+use Rattle.ieee.specs.Numbers.{c80}
 use Rattle.ieee.specs.Numbers64.{d0}
 use Rattle.ieee.proofs.Value.{mul-value}
 use Rattle.ieee.proofs.Bounds.{AtMost, lt-at-most, at-most-lt}
@@ -30,7 +31,7 @@ use Rattle.det_corners.proofs.Nearness.{Small, near-most, near-least}
 use Rattle.det_corners.proofs.Reduction.{INV, Reduced, reduce, inv-below, moved}
 use Rattle.det_corners.proofs.Scaling.{Middle, middle}
 use Rattle.det_corners.proofs.Top.{power-is}
-use Rattle.exp_fall.specs.Falling.{c80, Falling}
+use Rattle.exp_fall.specs.Falling.{Falling}
 
 -- ---- x lies between -80 and 0
 pub record Fallen (x : Float) : Type 0 where

@@ -14,7 +14,7 @@ ghost use Prim.Native.Nat.{_+_, _%_, _≤_, _<_};
 
 // How many of n frames make whole blocks.
 pub fn whole_blocks(n: usize) -> usize
-    ensures { λ r. ⌜ (r ≤ n) × (r % 64 ≡ 0) ⌝ }
+    ensures { λ r. ⌜ (r ≤ n) × (r % 64 ≡ 0) × (n < r + 64) ⌝ }
 {
     n - n % 64
 }
@@ -22,7 +22,7 @@ pub fn whole_blocks(n: usize) -> usize
 // Where the block from frame i on ends, of n frames.
 pub fn block_end(i: usize, n: usize) -> usize
     requires { ⌜ i < n ⌝ }
-    ensures { λ r. ⌜ (i < r) × (r ≤ n) × (r ≤ i + 64) ⌝ }
+    ensures { λ r. ⌜ (i < r) × (r ≤ n) × (r ≤ i + 64) × (r < n → r ≡ i + 64) ⌝ }
 {
     if n - i <= 64 { n } else { i + 64 }
 }

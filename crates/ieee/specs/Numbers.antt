@@ -119,6 +119,10 @@ c10 = ofBits binary32 0x41200000
 abbrev pub c20 : Float
 c20 = ofBits binary32 0x41a00000
 
+-- 80
+abbrev pub c80 : Float
+c80 = ofBits binary32 0x42a00000
+
 -- 1000
 abbrev pub c1000 : Float
 c1000 = ofBits binary32 0x447a0000

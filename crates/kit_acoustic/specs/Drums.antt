@@ -4,12 +4,12 @@ use lib.Ieee.{Float, lt}
 use mathlib.Core.Bool.{Bool, cond}
 use Rattle.ieee.specs.Binary32.{_⊕_, _⊖_, _⊗_, _⊘_}
 use Rattle.ieee.specs.Order.{minOf}
-use Rattle.ieee.specs.Numbers.{c0, c0·004, c0·008, c0·018, c0·03, c0·12, c0·25, c0·3, c0·4, c0·5, c0·55, c0·9, c1}
+use Rattle.ieee.specs.Numbers.{c0, c0·004, c0·008, c0·018, c0·03, c0·12, c0·25, c0·3, c0·4, c0·5, c0·55, c0·9, c1, c80}
 use Rattle.dsp.specs.Kernels.{TAU, sinOf}
 use Rattle.voice_cowbell.specs.Cowbell.{cowbellOf}
 use Rattle.rng.specs.declared.Rng.{Rng}
 use Rattle.kit_parts.specs.Numbers.{c0·007, c0·012, c0·028, c0·035, c0·07, c0·08, c0·1, c0·13, c0·14, c0·16, c0·18, c0·26, c0·28, c0·35, c0·48, c0·85}
-use Rattle.kit_parts.specs.Numbers.{c1·59, c24, c48, c80, c140, c185, c330, c420, c540, c1700, c2600}
+use Rattle.kit_parts.specs.Numbers.{c1·59, c24, c48, c140, c185, c330, c420, c540, c1700, c2600}
 use Rattle.kit_parts.specs.Parts.{tone, fade, filtered, turned, bi, drawn}
 use Rattle.kit_acoustic.specs.declared.drums.Coefficients.{Coefficients}
 use Rattle.kit_acoustic.specs.declared.drums.AcousticState.{AcousticState}

@@ -3,11 +3,11 @@ use lib.Ieee.{Float, lt}
 use mathlib.Core.Bool.{Bool, cond}
 use Rattle.ieee.specs.Binary32.{_⊕_, _⊖_, _⊗_, _⊘_}
 use Rattle.ieee.specs.Order.{minOf}
-use Rattle.ieee.specs.Numbers.{c0, c0·002, c0·03, c0·15, c0·2, c0·3, c0·4, c0·8, c1}
+use Rattle.ieee.specs.Numbers.{c0, c0·002, c0·03, c0·15, c0·2, c0·3, c0·4, c0·8, c1, c80}
 use Rattle.dsp.specs.Kernels.{TAU, sinOf}
 use Rattle.voice_cowbell.specs.Cowbell.{c0·09, cowbellOf}
 use Rattle.rng.specs.declared.Rng.{Rng}
-use Rattle.kit_parts.specs.Numbers.{c0·025, c0·04, c0·06, c0·08, c0·1, c0·11, c0·13, c0·18, c24, c45, c80, c105, c190, c540, c800}
+use Rattle.kit_parts.specs.Numbers.{c0·025, c0·04, c0·06, c0·08, c0·1, c0·11, c0·13, c0·18, c24, c45, c105, c190, c540, c800}
 use Rattle.kit_parts.specs.Parts.{tone, fade, turned, bi, drawn, drawnIf}
 use Rattle.kit_classic.specs.declared.drums.ClassicState.{ClassicState}
 use Rattle.kit_classic.specs.declared.drums.ClassicOut.{ClassicOut}

@@ -181,10 +181,6 @@ c55 = ofBits binary32 0x425c0000
 abbrev pub c68 : Float
 c68 = ofBits binary32 0x42880000
 
--- 80
-abbrev pub c80 : Float
-c80 = ofBits binary32 0x42a00000
-
 -- 90
 abbrev pub c90 : Float
 c90 = ofBits binary32 0x42b40000

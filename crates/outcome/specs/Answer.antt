@@ -50,6 +50,11 @@ abbrev pub seen : Outcome → List Float → Result
 seen (Played draws) out = accepted draws out
 seen (Refused r) out = refused (numberOf r)
 
+-- a refusal's number, 0 for an accepted call
+abbrev pub numberOfResult : Result → ℕ
+numberOfResult (refused number) = number
+numberOfResult (accepted draws frames) = 0
+
 -- the draws that a call reports: a refused one 0
 abbrev pub reported : Result → ℕ
 reported (refused number) = 0

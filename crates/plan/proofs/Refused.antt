@@ -8,10 +8,11 @@ use Rattle.outcome.specs.First.{_⇒_, firstOf, orElse, firstRefusal}
 use Rattle.outcome.specs.declared.answer.Refusal.the-variants.{Draws}
 use Rattle.outcome.specs.declared.answer.Verdict.{Verdict}
 use Rattle.outcome.specs.declared.answer.Verdict.the-variants.{Fine}
-use Rattle.score.specs.Score.{Score, notesIn}
+use Rattle.score.specs.Score.{Score, notesIn, drawsIn, noteDraws}
 use Rattle.score.specs.Refusals.{numberTests, voiceTests, listTests, callTests, noteRefusal, refusal, refusalAt}
 use Rattle.score.proofs.Accepted.{accepted-score}
-use Rattle.plan.specs.Plan.{unlent, butFor, planTests, planRefusal, planRefusalAt}
+use Rattle.session.specs.declared.session.Session.{Session}
+use Rattle.plan.specs.Plan.{unlent, butFor, planTests, plannedDraws, planRefusal, planRefusalAt, plannedAt, planOn}
 use Rattle.plan.proofs.Totals.{totals-equal}
 
 -- the tests, written out: those of the score call but `lentTests`
@@ -23,6 +24,11 @@ plan-tests s = refl
 pub unlent-same : (s : Score) → planRefusal (unlent (s .seq) (s .notes) (s .lane) (s .n)) ≡ planRefusal s
 unfolding planRefusal butFor noteRefusal
 unlent-same s = refl
+
+-- the same input without buffers is planned alike
+pub unlent-plan : (a : Session) (k : ℕ) (s : Score) → planOn a k (unlent (s .seq) (s .notes) (s .lane) (s .n)) ≡ planOn a k s
+unfolding planOn plannedAt planRefusalAt plannedDraws planRefusal butFor noteRefusal noteDraws drawsIn
+unlent-plan a k s = refl
 
 module _ (s : Score) (room : s .n ≤ s .room) (string : 9600 ≤ s .string) where
   tests-same : firstOf (planTests s) ≡ firstOf (callTests s)

@@ -17,8 +17,11 @@ use Rattle.score.specs.declared.seq.Seq.{Seq}
 use Rattle.score_draws.specs.Sum.{sumOf}
 use Rattle.score_draws.specs.declared.Sum.the-variants.{Over, Total}
 use Rattle.score_draws.proofs.Last.{sum-over, total-exact, total-fits, refused-first, refused-last, refused-not}
-use Rattle.session.specs.Opened.{countIn}
+use Rattle.session.specs.Named.{namedIn}
+use Rattle.session.specs.declared.session.Named.the-variants as sessions
 use Rattle.session.specs.declared.session.Session.{Session}
+use Rattle.session.specs.declared.station.Station.{Station}
+use Rattle.session.proofs.Naming.{named-one, named-none}
 use Rattle.plan.specs.Plan.{unlent, plannedDraws, butFor, planRefusal, planRefusalAt, outcomeOf, plannedAt, planOn}
 use Rattle.plan.proofs.Refused.{refused-alike-at}
 use Rattle.plan.proofs.Totals.{totals-equal}
@@ -54,10 +57,13 @@ module _ (seq : Seq) (notes : List ℕ) (lane : List Float) (n d : ℕ) where
 
 -- on a session: 33 first
 module _ (a : Session) (k : ℕ) (s : Score) where
-  pub no-station : 7 < k → Refused NoStation ≡ planOn a k s
+  pub no-station : namedIn a k ≡ sessions.NoStation → Refused NoStation ≡ planOn a k s
   unfolding planOn
-  no-station past = rw (lt-ltb 7 k past) refl
+  no-station none = rw (lt-ltb 7 k (named-none a k none)) refl
 
-  pub on-station : k ≤ 7 → {o : Outcome} → o ≡ plannedAt s (countIn a k) → o ≡ planOn a k s
+  pub on-station : {x : Station} → namedIn a k ≡ sessions.One x → {o : Outcome} → o ≡ plannedAt s (x .draw) → o ≡ planOn a k s
   unfolding planOn
-  on-station named e = rw (le-ltb 7 k named) e
+  on-station named e =
+      let one = named-one a k named in
+      let few : k ≤ 7 = omega (arith, one .0) in
+      rw (le-ltb 7 k few) (e ∙ ap (λ (y : Station). plannedAt s (y .draw)) (one .1))

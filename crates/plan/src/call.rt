@@ -4,6 +4,7 @@ use crate::total::total_draws;
 use outcome::Outcome;
 use outcome::Refusal;
 use score::Seq;
+use session::Named;
 use session::Session;
 
 // What a planning call answers: the session as it was, and the draws that the score call would make or why it would be
@@ -26,20 +27,12 @@ pub fn planned_draws(
 ) -> Plan
     ensures { λ r. ⌜ Planned session station (unlent seq (now (notes .entry)) (now (lane .entry)) n) r ⌝ }
 {
-    if station > 7 {
+    let Named::One(one) = session.named(station) else {
         return Plan {
             session,
             outcome: Outcome::Refused(Refusal::NoStation),
         };
-    }
-    let draw = session.draws[station as usize];
-    let outcome = total_draws(draw, seq, notes, lane, n);
-    let kept = Session {
-        seeds: session.seeds,
-        draws: session.draws,
     };
-    Plan {
-        session: kept,
-        outcome,
-    }
+    let outcome = total_draws(one.draw, seq, notes, lane, n);
+    Plan { session, outcome }
 }

@@ -12,26 +12,21 @@ use Rattle.outcome.specs.declared.answer.Outcome.the-variants.{Played, Refused}
 use Rattle.outcome.specs.declared.answer.Refusal.the-variants.{NoStation}
 use Rattle.outcome.specs.declared.answer.Verdict.{Verdict}
 use Rattle.outcome.specs.declared.answer.Verdict.the-variants.{Fine, Refuse}
-use Rattle.score.specs.Score.{Score, drawsIn, noteDraws, scoreDraws}
-use Rattle.score.specs.Refusals.{noteRefusal, refusalAt}
+use Rattle.score.specs.Score.{Score, scoreDraws}
+use Rattle.score.specs.Refusals.{refusalAt}
 use Rattle.score_contract.specs.Frames.{scoreFrames}
 use Rattle.score_contract.specs.ScoreCall.{scoreIn, resultOf}
 use Rattle.score_contract.specs.SessionCall.{SessionEvent, SessionScored, onStation, resultAt, resultOn}
 use Rattle.session.specs.Opened.{stationIn}
 use Rattle.session.specs.declared.session.Session.{Session}
-use Rattle.plan.specs.Plan.{unlent, butFor, plannedDraws, planRefusal, planRefusalAt, outcomeOf, plannedAt, planOn, Planned}
+use Rattle.plan.specs.Plan.{unlent, outcomeOf, plannedAt, planOn, Planned}
 use Rattle.plan.specs.declared.call.Plan.{Plan}
-use Rattle.plan.proofs.Refused.{refused-alike-at}
+use Rattle.plan.proofs.Refused.{unlent-plan, refused-alike-at}
 use Rattle.plan.proofs.Totals.{totals-equal}
 
 seen-of : (v : Verdict) (draws : ℕ) (frames : List Float) → seen (outcomeOf v draws) frames ≡ unless v (accepted draws frames)
 seen-of Fine draws frames = refl
 seen-of (Refuse r) draws frames = refl
-
--- the same input without buffers is planned alike
-pub unlent-plan : (a : Session) (k : ℕ) (s : Score) → planOn a k (unlent (s .seq) (s .notes) (s .lane) (s .n)) ≡ planOn a k s
-unfolding planOn plannedAt planRefusalAt plannedDraws planRefusal butFor noteRefusal noteDraws drawsIn
-unlent-plan a k s = refl
 
 module _ (a : Session) (k : ℕ) (s : Score) (room : s .n ≤ s .room) (string : 9600 ≤ s .string) where
   -- the frames of the score call

@@ -6,8 +6,8 @@ use native.Mathlib.Omega.{arith}
 use lib.ListN.{length, take, drop}
 use lib.Seq.{length-take-le}
 use Rattle.io.specs.Counts.{Counts}
+use Rattle.text_judge.proofs.Refused.{refusal-long}
 use Rattle.text.specs.Listing.{listing}
-use Rattle.text.proofs.Refused.{refusal-long}
 use Rattle.text.proofs.Most.{listing-most}
 use Rattle.play.specs.Input.{InputListed}
 

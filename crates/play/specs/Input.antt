@@ -3,7 +3,8 @@ use Prim.Native.Nat.{ℕ, _≤_}
 use mathlib.Core.Path.{_≡_}
 use mathlib.Core.List.{List, _++_}
 use lib.ListN.{length, take, drop}
-use Rattle.text.specs.Listing.{textRefusal, listing}
+use Rattle.text_judge.specs.Refusal.{textRefusal}
+use Rattle.text.specs.Listing.{listing}
 
 -- The input stands at the start of `score`, as far as it fits, and its listing at the start of the reply, of which the first `written` bytes go out.
 pub record InputListed (score reply₀ : List ℕ) (written : ℕ) (reply : List ℕ) : Type 0 where

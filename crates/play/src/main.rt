@@ -8,14 +8,8 @@ ghost use Rattle.text.specs.Listing.{listing};
 ghost use Rattle.play.specs.Input.{InputListed};
 use libc::STDIN_FILENO;
 use libc::STDOUT_FILENO;
-use text::Reply;
-
-// A text score has at most 65,536 bytes; the one more shows that the input is longer.
-fn score_buffer() -> [u8; 65537]
-    ensures { λ r. ⌜ 65537 ≡ length r ⌝ }
-{
-    [0u8; 65537]
-}
+use programs::input_buffer;
+use text_reply::Reply;
 
 // As long as the longest listing (the law `listing-most` of text).
 fn reply_buffer() -> [u8; 32808]
@@ -49,7 +43,7 @@ fn list_input(score: &mut [u8], reply: &mut [u8]) -> usize
 }
 
 fn main() {
-    let mut score = score_buffer();
+    let mut score = input_buffer();
     let mut reply = reply_buffer();
     let written = list_input(&mut score, &mut reply);
     io::write_all(STDOUT_FILENO, &reply[..written]);

@@ -8,16 +8,16 @@ use borrow.Author.Tests.{lt-ltb, le-ltb}
 use lib.ListN.{length, drop, getD, set, length-set, List·getD-eq-default}
 use lib.Seq.{getD-set-same, getD-set-other}
 use Rattle.rng.specs.SplitMix64.{stateAfter}
-use Rattle.rng.specs.declared.Rng.{Rng}
 use Rattle.rng.proofs.States.{state-add}
 use Rattle.outcome.specs.Answer.{Result, refused, accepted, seen, outAfter, free}
-use Rattle.outcome.specs.declared.answer.Refusal.the-variants.{NoStation}
-use Rattle.outcome.specs.declared.answer.Outcome.the-variants.{Refused}
 use Rattle.session.specs.Opened.{seedIn, countIn, stationAt, sessionAt, stationIn, counted, Eight}
+use Rattle.session.specs.Named.{namedIn, answeredIn, noStation}
 use Rattle.session.specs.declared.session.Session.{Session}
 use Rattle.session.specs.declared.session.Answer.{Answer}
+use Rattle.session.specs.declared.session.Named.the-variants.{One, NoStation}
 use Rattle.session.specs.declared.station.Station.{Station}
 use Rattle.session.specs.declared.station.StationAnswer.{StationAnswer}
+use Rattle.session.proofs.Naming.{named-one, named-none}
 use Rattle.score_contract.specs.ScoreCall.{Event, Scored, resultIn, stationAfter}
 use Rattle.score_contract.specs.SessionCall.{SessionEvent, SessionScored, onStation, resultAt, resultOn, sessionAfter}
 
@@ -134,25 +134,26 @@ module _ (a : Session) (eight : Eight a) (e : SessionEvent) where
   k = e .station
 
   -- no station: 33
-  pub none-named : 7 < k → (g : Rng) → g .0 ≡ 0 → e .answer ≡ record { session = a; rng = g; outcome = Refused NoStation } → e .out ≡ e .out₀ → e .buffer ≡ e .buffer₀
-      → e .string ≡ e .string₀ → SessionScored a e
-  none-named past g zero-state ans o b s =
+  pub none-named : namedIn a k ≡ NoStation → e .answer ≡ noStation a → e .out ≡ e .out₀ → e .buffer ≡ e .buffer₀ → e .string ≡ e .string₀ → SessionScored a e
+  none-named none-such ans o b s =
+      let past = named-none a k none-such in
       let q = nowhere a e past in
       let seed : seedIn a k ≡ 0 = List·getD-eq-default (a .seeds) 0 (omega (arith, eight .seeds)) in
       let count : countIn a k ≡ 0 = List·getD-eq-default (a .draws) 0 (omega (arith, eight .counts)) in
       let none : stateAfter (seedIn a k) (countIn a k) ≡ 0 = rw (seed, count) refl in record {
         answer = ap (λ (x : Answer). seen (x .outcome) (e .out)) ans ∙ sym q;
         session = ap (λ (x : Answer). x .session) ans ∙ ap (sessionAfter a k) (sym q);
-        generator = ap (λ (x : Answer). x .rng .0) ans ∙ zero-state ∙ sym none ∙ ap (λ (x : Answer). stateAfter (seedIn (x .session) k) (countIn (x .session) k)) (sym ans);
+        generator = ap (λ (x : Answer). x .rng .0) ans ∙ sym none ∙ ap (λ (x : Answer). stateAfter (seedIn (x .session) k) (countIn (x .session) k)) (sym ans);
         frames = o ∙ ap (outAfter (e .out₀)) (sym q);
         buffer = ap (drop (free (length (e .out₀)) (resultOn a e))) b;
         string = ap (drop (free 9600 (resultOn a e))) s;
       }
 
   -- the count of the station after its call is put back, and its generator handed on
-  pub put-back : k < 8 → (one : StationAnswer) → Scored (stationIn a k) (answered e one)
-      → e .answer ≡ record { session = counted a k (one .station .draw); rng = one .station .rng; outcome = one .outcome } → SessionScored a e
-  put-back lt one scored ans =
+  pub put-back : {x : Station} → namedIn a k ≡ One x → (one : StationAnswer) → Scored x (answered e one) → e .answer ≡ answeredIn a k one → SessionScored a e
+  put-back is one on-it ans =
+      let lt = named-one a k is .0 in
+      let scored = subst (λ (x : Station). Scored x (answered e one)) (named-one a k is .1) on-it in
       let r = resultIn (stationIn a k) (onStation e) in
       let q = named a e lt in
       let after : e .answer .session ≡ sessionAfter a k r

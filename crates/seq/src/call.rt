@@ -1,11 +1,9 @@
 // The score call.
 ghost use Rattle.score_contract.specs.SessionCall.{SessionScored};
 use crate::station::render_station;
-use outcome::Outcome;
-use outcome::Refusal;
-use rng::Rng;
 use score::Seq;
 use session::Answer;
+use session::Named;
 use session::Session;
 
 // Fills `out` with a score, played on the station that the call names, and answers how many draws it made and the
@@ -35,22 +33,9 @@ pub fn render_seq(
       string = now (string .exit);
     }) ⌝ }
 {
-    if station > 7 {
-        return Answer {
-            session,
-            rng: Rng::new(0),
-            outcome: Outcome::Refused(Refusal::NoStation),
-        };
-    }
-    let k = station as usize;
-    let one = session.station(k);
+    let Named::One(one) = session.named(station) else {
+        return session.no_station();
+    };
     let answer = render_station(one, seq, notes, lane, out, note_buf, string);
-    let after = answer.station;
-    let rng = after.rng;
-    let outcome = answer.outcome;
-    Answer {
-        session: session.with_draw(k, after.draw),
-        rng,
-        outcome,
-    }
+    session.answered(station, answer)
 }

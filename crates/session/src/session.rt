@@ -2,8 +2,11 @@
 ghost use mathlib.Core.Path.{_≡_};
 ghost use Prim.Native.Nat.{_<_};
 ghost use Rattle.session.specs.Opened.{sessionAt, stationIn, counted};
+ghost use Rattle.session.specs.Named.{namedIn, answeredIn, noStation};
 use crate::station::Station;
+use crate::station::StationAnswer;
 use outcome::Outcome;
+use outcome::Refusal;
 use rng::Rng;
 
 // The seeds and the draw counts of the stations 0 to 7: what a lab cites. A station's generator is its seed, set at
@@ -41,6 +44,48 @@ impl Session {
         self.draws[k] = draw;
         self
     }
+
+    // The station that a call names.
+    pub fn named(self, station: u32) -> Named
+        ensures { λ r. ⌜ r ≡ namedIn self station ⌝ }
+    {
+        if station > 7 {
+            return Named::NoStation;
+        }
+        Named::One(self.station(station as usize))
+    }
+
+    // What a call answers whose station answered `answer`.
+    pub fn answered(self, station: u32, answer: StationAnswer) -> Answer
+        requires { ⌜ station < 8 ⌝ }
+        ensures { λ r. ⌜ r ≡ answeredIn self station answer ⌝ }
+    {
+        let after = answer.station;
+        let rng = after.rng;
+        let outcome = answer.outcome;
+        Answer {
+            session: self.with_draw(station as usize, after.draw),
+            rng,
+            outcome,
+        }
+    }
+
+    // What a call answers that names no station.
+    pub fn no_station(self) -> Answer
+        ensures { λ r. ⌜ r ≡ noStation self ⌝ }
+    {
+        Answer {
+            session: self,
+            rng: Rng::new(0),
+            outcome: Outcome::Refused(Refusal::NoStation),
+        }
+    }
+}
+
+// A station of a session, or none where the number is above 7.
+pub enum Named {
+    One(Station),
+    NoStation,
 }
 
 // What a score call answers: the session after it, the generator of its station, as playing left it, and the draws

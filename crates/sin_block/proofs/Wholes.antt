@@ -12,7 +12,7 @@ use Rattle.float.proofs.Wholes.{parts, nearest-is, half-taken}
 use Rattle.float.proofs.Signs.{neg-whole}
 use Rattle.trig.specs.Trig.{INV·PI2, lessTurns, reduce2pi}
 use Rattle.sin_block.specs.Nearest.{magnitude}
-use Rattle.sin_block.specs.Whole.{summedOf, wholeOf, Sure}
+use Rattle.sin_block.specs.Whole.{summedOf, nearestBySum, Sure}
 
 summed-is : (a : Float) → T (fits binary64 a) → Sure a → summedOf a ≡ roundOf a
 unfolding summedOf ofBits
@@ -29,20 +29,20 @@ module _ (t : Float) (fit : T (fits binary64 t)) where
   unfolding magnitude
   other s = if-false _ s refl
 
-  above : lt d0 t ≡ true → Sure (magnitude t) → wholeOf t ≡ roundOf t
-  unfolding wholeOf
+  above : lt d0 t ≡ true → Sure (magnitude t) → nearestBySum t ≡ roundOf t
+  unfolding nearestBySum
   above s S = sym (if-true _ s (sym (subst (λ (a : Float). summedOf a ≡ roundOf t) (same s) (summed-is t fit (subst Sure (sym (same s)) S)))))
 
-  below : lt d0 t ≡ false → Sure (magnitude t) → wholeOf t ≡ roundOf t
-  unfolding wholeOf
+  below : lt d0 t ≡ false → Sure (magnitude t) → nearestBySum t ≡ roundOf t
+  unfolding nearestBySum
   below s S =
       sym (if-false _ s (sym (subst (λ (a : Float). neg (summedOf a) ≡ roundOf t) (other s)
       (ap neg (summed-is (neg t) (neg-fits binary64 t fit) (subst Sure (sym (other s)) S)) ∙ neg-whole halfUp t))))
 
-  whole-by : (b : Bool) → lt d0 t ≡ b → Sure (magnitude t) → wholeOf t ≡ roundOf t
+  whole-by : (b : Bool) → lt d0 t ≡ b → Sure (magnitude t) → nearestBySum t ≡ roundOf t
   whole-by true s S = above s S
   whole-by false s S = below s S
 
-pub reduced : (x : Float) → Sure (magnitude (x ⊠ INV·PI2)) → lessTurns x (wholeOf (x ⊠ INV·PI2)) ≡ reduce2pi x
+pub reduced : (x : Float) → Sure (magnitude (x ⊠ INV·PI2)) → lessTurns x (nearestBySum (x ⊠ INV·PI2)) ≡ reduce2pi x
 unfolding reduce2pi
 reduced x S = ap (lessTurns x) (whole-by (x ⊠ INV·PI2) (mul-fits binary64 x INV·PI2) (lt d0 (x ⊠ INV·PI2)) refl S)

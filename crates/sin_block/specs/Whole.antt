@@ -16,5 +16,5 @@ pub record Sure (a : Float) : Type 0 where
   pub near : lt a (summedOf a ⊞ d0·5) ≡ true
 
 -- of a t with such a magnitude
-unfoldable pub wholeOf : Float → Float
-wholeOf t = cond (lt d0 t) (summedOf (magnitude t)) (neg (summedOf (magnitude t)))
+unfoldable pub nearestBySum : Float → Float
+nearestBySum t = cond (lt d0 t) (summedOf (magnitude t)) (neg (summedOf (magnitude t)))

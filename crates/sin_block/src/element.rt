@@ -10,8 +10,10 @@ ghost use Rattle.ieee.specs.Numbers64.{d0, d0·5, d2^52};
 ghost use Rattle.ieee.specs.Binary64.{_⊞_, _⊟_, _⊠_};
 ghost use Rattle.trig.specs.Trig.{FRAC·PI·2, reduce2pi, sinReduced};
 ghost use Rattle.sin_block.specs.Nearest.{d2·5, magnitude, nearestAbove, nearestOf};
-ghost use Rattle.sin_block.specs.Whole.{summedOf, wholeOf, Sure};
+ghost use Rattle.sin_block.specs.Whole.{summedOf, nearestBySum, Sure};
 ghost use Rattle.sin_block.specs.Quarter.{polyAt, sineAt};
+use select::not_below;
+use select::pick;
 
 const INV_PI2: f64 = 1.59154943091895335769e-01; // 1/(2π), 3fc45f306dc9c883
 
@@ -25,12 +27,6 @@ pub struct Tried {
 pub struct Narrowed {
     pub value: f32,
     pub bad: u64,
-}
-
-fn pick(t: bool, x: f64, y: f64) -> f64
-    ensures { λ r. ⌜ r ≡ cond t x y ⌝ }
-{
-    if t { x } else { y }
 }
 
 fn size(t: f64) -> f64
@@ -79,17 +75,10 @@ fn summed(a: f64) -> f64
 
 // The whole number nearest to t.
 fn whole(t: f64) -> f64
-    ensures { λ r. ⌜ r ≡ wholeOf t ⌝ }
+    ensures { λ r. ⌜ r ≡ nearestBySum t ⌝ }
 {
     let n = summed(size(t));
     pick(t > 0.0, n, -n)
-}
-
-// 0 above 0.
-fn not_positive(a: f64) -> u64
-    ensures { λ r. ⌜ (r ≤ 1) × (r ≡ 0 → lt d0 a ≡ true) ⌝ }
-{
-    if a > 0.0 { 0 } else { 1 }
 }
 
 // 0 below 2^52, where a is not a half that the sum takes down.
@@ -109,7 +98,7 @@ fn unsure(t: f64) -> u64
     ensures { λ r. ⌜ (r ≤ 2) × (r ≡ 0 → Sure (magnitude t)) ⌝ }
 {
     let a = size(t);
-    not_positive(a) + halved(a)
+    not_below(0.0, a) + halved(a)
 }
 
 // x less the nearest number of turns.

@@ -147,12 +147,12 @@ module _ (x : Float) (I : Inner x) where
   inner-tangent = if-false _ (number (isNan x) (inner-number x I)) (if-false _ (not-above (magnitudeOf x) bounded) (both (lt (magnitudeOf x) d0·25) (exp64 (twice x))))
 
 -- the passes one after another
-pub composed : (f : ℕ → Float) (e wide out : List Float) (n : ℕ)
+pub tangent-composed : (f : ℕ → Float) (e wide out : List Float) (n : ℕ)
     → ((k : ℕ) → k < n → Inner (f k))
     → Tabled (λ k. exp64 (twice (f k))) nan 0 n e
     → Tabled (λ k. tangentOf (f k) (getD e k nan)) nan 0 n wide
     → Tabled (λ k. narrowOf (getD wide k nan)) nan 0 n out
     → Tabled (λ k. tanhfOf (f k)) nan 0 n out
-composed f e wide out n inner a b c = record {
+tangent-composed f e wide out n inner a b c = record {
   at = λ k h l. c .at k h l ∙ ap narrowOf (tabled-at b k l ∙ ap (tangentOf (f k)) (tabled-at a k l) ∙ inner-tangent (f k) (inner k l));
 }

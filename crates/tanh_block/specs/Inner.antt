@@ -19,10 +19,10 @@ pub record Inner (x : Float) : Type 0 where
   pub near : lt (twice x ⊠ INV·LN2) (twice x ⊠ INV·LN2 ⊞ d2^52 ⊟ d2^52 ⊞ d0·5) ≡ true
 
 -- e / (e + 2) below 0.25, e being expm1_small(2|x|), and 2 / (h + 1) elsewhere, h being exp(2|x|)
-abbrev pub quotientOf : Float → Float → Float
-quotientOf x h =
+abbrev pub tangentQuotient : Float → Float → Float
+tangentQuotient x h =
     let e = expm1Small (twice x) in
     cond (lt (magnitudeOf x) d0·25) e d2 ⧄ cond (lt (magnitudeOf x) d0·25) (e ⊞ d2) (h ⊞ d1)
 
 unfoldable pub tangentOf : Float → Float → Float
-tangentOf x h = unitSign x ⊠ cond (lt (magnitudeOf x) d0·25) (quotientOf x h) (d1 ⊟ quotientOf x h)
+tangentOf x h = unitSign x ⊠ cond (lt (magnitudeOf x) d0·25) (tangentQuotient x h) (d1 ⊟ tangentQuotient x h)

@@ -1,19 +1,13 @@
 // One value of each pass.
 ghost use mathlib.Core.Path.{_≡_};
-ghost use mathlib.Core.Bool.{cond, true};
 ghost use Prim.Native.Nat.{_≤_};
-ghost use lib.Ieee.{lt};
 ghost use Rattle.det.specs.Exp.{exp64};
 ghost use Rattle.det.specs.Tanh.{magnitudeOf, unitSign};
 ghost use Rattle.tanh_block.specs.Inner.{Inner, twice, tangentOf};
+use select::not_below;
+use select::pick;
 
 const INV_LN2: f64 = 1.44269504088896340735992468100189214; // LOG2_E, 3ff71547652b82fe
-
-fn pick(t: bool, x: f64, y: f64) -> f64
-    ensures { λ r. ⌜ r ≡ cond t x y ⌝ }
-{
-    if t { x } else { y }
-}
 
 fn magnitude(x: f64) -> f64
     ensures { λ r. ⌜ r ≡ magnitudeOf x ⌝ }
@@ -25,13 +19,6 @@ fn unit_sign(x: f64) -> f64
     ensures { λ r. ⌜ r ≡ unitSign x ⌝ }
 {
     pick(x < 0.0, -1.0, 1.0)
-}
-
-// A test, 0 where it is passed. None is jumped over, so that the loop over them has no branch.
-fn not_below(x: f64, limit: f64) -> u64
-    ensures { λ r. ⌜ (r ≤ 1) × (r ≡ 0 → lt x limit ≡ true) ⌝ }
-{
-    if x < limit { 0 } else { 1 }
 }
 
 // 0 for an x that the passes cover.

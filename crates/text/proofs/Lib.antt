@@ -2,4 +2,3 @@ mod Shown
 pub mod Replying
 pub mod Refused
 pub mod Most
-pub mod Judged

@@ -11,29 +11,31 @@ use lib.Ieee.{Float}
 use lib.ListN.{length, drop}
 use Rattle.rng.specs.SplitMix64.{stateAfter}
 use Rattle.dsl.specs.declared.note.Decoded.{Decoded}
-use Rattle.dsl.proofs.Cases.{by-words, by-kind}
-use Rattle.mix.proofs.Mixing.{silence-length, mixed-length}
-use Rattle.outcome.specs.Answer.{Result, accepted, unless, numberOf, framesIn}
+use Rattle.dsl.proofs.Cases.{by-words}
+use Rattle.outcome.specs.Answer.{Result, accepted, unless, numberOf}
 use Rattle.outcome.specs.declared.answer.Refusal.{Refusal}
 use Rattle.outcome.specs.declared.answer.Refusal.the-variants.{Draws}
 use Rattle.outcome.specs.declared.answer.Verdict.{Verdict}
 use Rattle.outcome.specs.declared.answer.Verdict.the-variants.{Fine, Refuse}
 use Rattle.outcome.specs.First.{Test, _⇒_, firstOf, orElse, firstRefusal}
 use Rattle.outcome.proofs.First.{none-holds, or-fine}
-use Rattle.score.specs.Score.{Score, rateIn, noteIn, noteCount, notesIn, place, skips, scoreDraws}
+use Rattle.score.specs.Score.{Score, noteCount, notesIn, scoreDraws}
 use Rattle.score.specs.Refusals.{callTests, noteTests, untunedTests, noteRefusal, refusal, refusalAt}
 use Rattle.score.specs.declared.seq.Seq.{Seq}
-use Rattle.tally.specs.Alone.{aloneOf}
-use Rattle.tally.specs.Tally.{Taken, takenNote, taken, takenAfter, allTaken, tallied, newDraw, tally}
+use Rattle.tally.specs.Tally.{Taken, allTaken, tallied, newDraw, tally}
 use Rattle.tally.proofs.AllCalls.{taken-whole}
+use Rattle.tally.proofs.Lengths.{taken-length}
 use Rattle.text_listing.specs.Lines.{printedR}
 use Rattle.text_listing.proofs.Listings.{refusal-length, listing-length}
 use Rattle.text_read.specs.Text.{seqIn, textOf}
 use Rattle.text.specs.Reply.{tooShort, replyOf, bytesAfter, Replied}
-use Rattle.text.specs.declared.call.Reply.{Reply}
-use Rattle.text.specs.declared.call.Reply.the-variants.{Listing, Short}
-use Rattle.text.proofs.Refused.{unrefused-read}
-use Rattle.text.specs.Listing.{callOf, shownAt, played, textRefusal, playedRead, unlessRefused, listing}
+use Rattle.text_reply.specs.Shown.{shownAt}
+use Rattle.text_reply.specs.declared.reply.Reply.{Reply}
+use Rattle.text_reply.specs.declared.reply.Reply.the-variants.{Listing, Short}
+use Rattle.text_judge.specs.Call.{callOf}
+use Rattle.text_judge.specs.Refusal.{textRefusal, unlessRefused}
+use Rattle.text_judge.proofs.Refused.{unrefused-read}
+use Rattle.text.specs.Listing.{played, playedRead, listing}
 
 -- ---- no refusal of a score has a number of three digits
 abbrev Small : Verdict → Type 0
@@ -93,25 +95,8 @@ text-most text = leb-true (textRefusal text) 99 (simp (cond-leb, cond-same))
 line-most : (n : ℕ) → n ≤ 99 → length (printedR n) ≤ 32808
 line-most n h = let l = refusal-length n (omega arith) in omega arith
 
--- ---- an accepted call: n frames, and a draw that fits 64 bits
+-- ---- an accepted call: a draw that fits 64 bits
 module _ (seed : ℕ) (s : Score) where
-  mixed-by : (b : Bool) (t u : Taken) → length (u .frames) ≡ length (t .frames) → length (cond b t u .frames) ≡ length (t .frames)
-  mixed-by true t u e = refl
-  mixed-by false t u e = e
-
-  note-length : (e : Decoded) (t : Taken) → length (taken seed s e t .frames) ≡ length (t .frames)
-  unfolding taken
-  note-length = by-kind (λ e. (t : Taken) → length (taken seed s e t .frames) ≡ length (t .frames))
-      (λ m t.
-      let p = place s m in
-      mixed-by (skips s m) t _ (mixed-length (p .start) (framesIn (aloneOf s m (stateAfter seed (t .x)))) (s .seq .env) (p .len) (rateIn s) (p .gain) (t .frames)))
-      (λ e none t. ap (λ (u : Taken). length (u .frames)) (none .other t (takenNote seed s t)))
-
-  pub taken-length : (d k : ℕ) → length (takenAfter seed s d k .frames) ≡ s .n
-  unfolding takenAfter
-  taken-length d zero = silence-length (s .n)
-  taken-length d (suc k) = note-length (noteIn s k) (takenAfter seed s d k) ∙ taken-length d k
-
   draw-fits : (d : ℕ) → refusalAt s d ≡ Fine → allTaken seed s d .x < 2 ^ 64
   unfolding refusalAt
   draw-fits d e =
@@ -137,7 +122,7 @@ played-most seq notes n seed draw h =
     shown-most (refusalAt s draw) (scoreDraws s) draw _ _ (stateAfter seed) (score-small s draw) (draw-fits seed s draw) (omega arith)
 
 -- ---- the listing of any text
-listed-most : (n : ℕ) (l : List ℕ) → n ≤ 99 → (n ≡ 0 → length l ≤ 32808) → length (unlessRefused n l) ≤ 32808
+listed-most : (n : ℕ) (l : List ℕ) → n ≤ 99 → (n ≡ 0 → length l ≤ 32808) → length (unlessRefused printedR n l) ≤ 32808
 listed-most zero l h f = f refl
 listed-most (suc n) l h f = line-most (suc n) h
 

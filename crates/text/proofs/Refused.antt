@@ -1,70 +1,21 @@
 -- What 01 says of a text: "A refused score prints one line alone" (`refused-line`), and "A text score past 15 and 16 gives what a list of its one score call gives, from the session
--- that its G line opens" (`past-line`, of a text that `unrefused-read` gives). Assumes nothing.
-use Prim.Native.Nat.{ℕ, suc, _≤_, _<_}
-use mathlib.Core.Path.{_≡_, refl, ap}
+-- that its G line opens" (`past-line`, of a text that `unrefused-read` of text_judge gives). Assumes nothing.
+use Prim.Native.Nat.{ℕ, suc}
+use mathlib.Core.Path.{_≡_, ap}
 use mathlib.Core.List.{List, [], _∷_}
-use mathlib.Core.Bool.{Bool, true, false, cond}
-use native.Mathlib.Omega.{arith}
-use borrow.Author.Tests.{lt-ltb, ltb-false}
-use lib.Dec.{ltb}
-use lib.ListN.{length}
-use Rattle.laws.proofs.If.{if-true}
 use Rattle.tally.specs.Tally.{tally}
-use Rattle.text_digits.specs.Read.{Read, got, broken}
+use Rattle.text_digits.specs.Read.{got}
 use Rattle.text_listing.specs.Lines.{printedR}
-use Rattle.text_read.specs.Notes.{countOf}
 use Rattle.text_read.specs.Text.{Text, seqIn, textOf}
-use Rattle.text.specs.Listing.{callOf, shown, played, formBroken, tooLarge, textRefusal, playedRead, unlessRefused, listing}
-
--- a number by tests is 0: the first test is false, and so is the rest 0
-not-first : (b : Bool) (n rest : ℕ) → cond b (suc n) rest ≡ 0 → (b ≡ false) × (rest ≡ 0)
-not-first true n rest e = absurd (omega arith)
-not-first false n rest e = (refl, e)
-
--- "16 input above 65,536 bytes", before all others
-pub refusal-long : (text : List ℕ) → 65536 < length text → 16 ≡ textRefusal text
-unfolding textRefusal
-refusal-long text h = if-true _ (lt-ltb _ _ h) refl
+use Rattle.text_judge.specs.Call.{callOf}
+use Rattle.text_judge.specs.Refusal.{textRefusal, unlessRefused}
+use Rattle.text.specs.Listing.{shown, played, playedRead, listing}
 
 pub refused-line : (text : List ℕ) (number : ℕ) → textRefusal text ≡ suc number → listing text ≡ printedR (suc number)
 unfolding listing
-refused-line text number e = ap (λ (n : ℕ). unlessRefused n (playedRead (textOf text))) e
+refused-line text number e = ap (λ (n : ℕ). unlessRefused printedR n (playedRead (textOf text))) e
 
 pub past-line : (text : List ℕ) {t : Text} {rest : List ℕ} → textRefusal text ≡ 0 → textOf text ≡ got t rest
     → listing text ≡ shown (t .seed) (tally (t .seed) (t .draw) (callOf (seqIn t) (t .notes) (t .numbers .n) ∷ []))
 unfolding listing played
 past-line text e is = rw (e, is)
-
--- what a text is that is not refused before its score call is made
-pub record Unrefused (text : List ℕ) : Type 0 where
-  pub said : Text
-  pub rest : List ℕ
-  pub is : textOf text ≡ got said rest
-  pub bytes : length text ≤ 65536
-  pub frames : said .numbers .n ≤ 2048
-  pub notes : countOf (said .notes) ≤ 256
-
-neither : (a b : Bool) → cond a true b ≡ false → (a ≡ false) × (b ≡ false)
-neither true b e = (e, cc)
-neither false b e = (refl, e)
-
-unrefused : (text : List ℕ) (x : Read Text) → textOf text ≡ x → length text ≤ 65536 → formBroken x ≡ false → tooLarge x ≡ false → Unrefused text
-unrefused text broken is few formed small = let z : _≡_ {A = ℕ} 0 1 = cc in absurd (omega arith)
-unrefused text (got t rest) is few formed small =
-    let within = neither (ltb 2048 (t .numbers .n)) (ltb 256 (countOf (t .notes))) small in
-    record {
-      said = t;
-      rest = rest;
-      is = is;
-      bytes = few;
-      frames = ltb-false 2048 (t .numbers .n) (within .0);
-      notes = ltb-false 256 (countOf (t .notes)) (within .1);
-    }
-
-pub unrefused-read : (text : List ℕ) → textRefusal text ≡ 0 → Unrefused text
-unfolding textRefusal
-unrefused-read text e =
-    let x = textOf text in
-    let few = not-first (ltb 65536 (length text)) 15 (cond (formBroken x) 15 (cond (tooLarge x) 16 0)) e in
-    let formed = not-first (formBroken x) 14 (cond (tooLarge x) 16 0) (few .1) in
-    unrefused text x refl (ltb-false 65536 (length text) (few .0)) (formed .0) (not-first (tooLarge x) 15 0 (formed .1) .0)

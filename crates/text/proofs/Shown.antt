@@ -1,9 +1,8 @@
--- The listing of a text score: of its one call by the theorem about lists of calls, and which of its cases a text is. Assumes nothing.
-use Prim.Native.Nat.{ℕ, zero, suc, _≤_, _<_}
-use mathlib.Core.Path.{_≡_, refl, ap, _∙_}
+-- The listing of a text score: of its one call by the theorem about lists of calls, and of a text that was judged. Assumes nothing.
+use Prim.Native.Nat.{ℕ, _*_}
+use mathlib.Core.Path.{_≡_, ap, _∙_}
 use mathlib.Core.List.{List, [], _∷_}
-use native.Mathlib.Omega.{arith}
-use lib.ListN.{length}
+use lib.ListN.{take}
 use Rattle.rng.specs.SplitMix64.{stateAfter}
 use Rattle.outcome.specs.Answer.{Result}
 use Rattle.score.specs.Score.{Score}
@@ -17,14 +16,16 @@ use Rattle.session.specs.declared.station.Station.{Station}
 use Rattle.tally.specs.Tally.{tally}
 use Rattle.tally.specs.Claim.{none, call, seenIn}
 use Rattle.tally.proofs.AllCalls.{all-calls}
-use Rattle.text_digits.specs.Read.{broken}
 use Rattle.text_read.specs.Text.{seqOf, textOf}
 use Rattle.text_read.specs.declared.text.TextScore.{TextScore}
-use Rattle.text_read.proofs.Said.{Said}
 use Rattle.text_listing.specs.Lines.{printedR}
-use Rattle.text.proofs.Refused.{refusal-long}
-use Rattle.text.proofs.Judged.{judged-broken, judged-frames, judged-notes, judged-none}
-use Rattle.text.specs.Listing.{callOf, shownAt, shownOne, shown, played, textRefusal, playedRead, unlessRefused, listing}
+use Rattle.text_reply.specs.Shown.{shownAt}
+use Rattle.text_judge.specs.Call.{callOf}
+use Rattle.text_judge.specs.Judged.{Judges}
+use Rattle.text_judge.specs.declared.judge.Judged.{Judged}
+use Rattle.text_judge.specs.declared.judge.Judged.the-variants.{Refused}
+use Rattle.text_judge.proofs.Past.{Past, judged-refused}
+use Rattle.text.specs.Listing.{shownOne, shown, played, playedRead, listing}
 
 -- a session at a draw shows what its seed and that draw do
 shown-session : (seed end : ℕ) (b : Station) (r : Result) → b ≡ stationAt seed end → shownAt (b .rng .0) (b .draw) r ≡ shownAt (stateAfter seed end) end r
@@ -45,33 +46,15 @@ unfolding played
 played-by seq notes n seed draw a e opened first scored is =
     one-call seed draw (onStation e) (first-station seed draw a e opened first scored) ∙ ap (λ (s : Score). shown seed (tally seed draw (s ∷ []))) is
 
--- ---- by which number a text is refused, and which listing it then has
-listed-by : (n : ℕ) (l : List ℕ) → 0 < n → printedR n ≡ unlessRefused n l
-listed-by zero l h = absurd (omega arith)
-listed-by (suc n) l h = refl
+-- ---- which listing a text has that was judged
+pub listing-refused : {text words₀ words : List ℕ} {r : Judged} (h : Judges text words₀ r words) {n : ℕ} → r ≡ Refused n → printedR n ≡ listing text
+unfolding listing
+listing-refused {text} h is = judged-refused h printedR (playedRead (textOf text)) is
 
-module _ (text : List ℕ) where
-  listing-refused : (n : ℕ) → 0 < n → n ≡ textRefusal text → printedR n ≡ listing text
-  unfolding listing
-  listing-refused n h e = rw (← e) (listed-by n (playedRead (textOf text)) h)
-
-  pub listing-long : 65536 < length text → printedR 16 ≡ listing text
-  listing-long h = listing-refused 16 (omega arith) (refusal-long text h)
-
-  module _ (few : length text ≤ 65536) where
-    pub listing-broken : textOf text ≡ broken → printedR 15 ≡ listing text
-    listing-broken e = listing-refused 15 (omega arith) (judged-broken text few e)
-
-    module _ {x : TextScore} {words₀ words : List ℕ} (said : Said x (textOf text) words₀ words) where
-      pub listing-frames : 2048 < x .numbers .n → printedR 16 ≡ listing text
-      listing-frames h = listing-refused 16 (omega arith) (judged-frames text few said h)
-
-      pub listing-notes : x .numbers .n ≤ 2048 → 256 < x .count → printedR 16 ≡ listing text
-      listing-notes f h = listing-refused 16 (omega arith) (judged-notes text few said f h)
-
-      pub listing-played : x .numbers .n ≤ 2048 → x .count ≤ 256 → (ws : List ℕ) → ws ≡ said .text .notes
-          → played (seqOf (x .numbers) (x .env) (x .sound)) ws (x .numbers .n) (x .seed) (x .draw) ≡ listing text
-      unfolding listing
-      listing-played f h ws is =
-          rw (← judged-none text few said f h, said .is)
-          (λ j. played (seqOf (said .score j .numbers) (said .score j .env) (said .score j .sound)) (is j) (said .score j .numbers .n) (said .score j .seed) (said .score j .draw))
+pub listing-played : {text : List ℕ} {x : TextScore} {words : List ℕ} (p : Past text x words)
+    → played (seqOf (x .numbers) (x .env) (x .sound)) (take (x .count * 5) words) (x .numbers .n) (x .seed) (x .draw) ≡ listing text
+unfolding listing
+listing-played p =
+    rw (p .none, p .is) (λ j.
+    let y = p .score j in
+    played (seqOf (y .numbers) (y .env) (y .sound)) (p .notes j) (y .numbers .n) (y .seed) (y .draw))

@@ -4,11 +4,10 @@ use mathlib.Core.Path.{_≡_}
 use mathlib.Core.List.{List, _++_}
 use mathlib.Core.Bool.{Bool, cond}
 use lib.ListN.{length, drop}
-use lib.IntN.{ℤ, pos, negsuc}
 use lib.Dec.{ltb}
 use Rattle.text.specs.Listing.{listing}
-use Rattle.text.specs.declared.call.Reply.{Reply}
-use Rattle.text.specs.declared.call.Reply.the-variants.{Listing, Short}
+use Rattle.text_reply.specs.declared.reply.Reply.{Reply}
+use Rattle.text_reply.specs.declared.reply.Reply.the-variants.{Listing, Short}
 
 -- "23 C call only: reply buffer shorter than the listing"
 abbrev pub tooShort : List ℕ → List ℕ → Bool
@@ -26,13 +25,3 @@ bytesAfter text reply₀ = cond (tooShort text reply₀) reply₀ (listing text 
 pub record Replied (text reply₀ : List ℕ) (said : Reply) (reply : List ℕ) : Type 0 where
   pub answer : said ≡ replyOf text reply₀
   pub bytes : reply ≡ bytesAfter text reply₀
-
--- The same of any text l that is printed: what the parts of the call promise of the listing that they print.
-pub record Fitted (l reply₀ : List ℕ) (said : Reply) (reply : List ℕ) : Type 0 where
-  pub answer : said ≡ cond (ltb (length reply₀) (length l)) Short (Listing (length l))
-  pub bytes : reply ≡ cond (ltb (length reply₀) (length l)) reply₀ (l ++ drop (length l) reply₀)
-
--- What the C call returns for each answer: "the listing's length in bytes, or −23" (`negsuc 22`).
-abbrev pub returnOf : Reply → ℤ
-returnOf (Listing n) = pos n
-returnOf Short = negsuc 22

@@ -1,14 +1,14 @@
 // The score call of a text score.
 ghost use Prim.Native.Nat.{_≤_};
 ghost use Rattle.text.specs.Listing.{played};
-ghost use Rattle.text.specs.Reply.{Fitted};
-use crate::answer::reply_answer;
-use crate::buffers::frames_buffer;
-use crate::buffers::string_buffer;
-use crate::call::Reply;
+ghost use Rattle.text_reply.specs.Reply.{Fitted};
 use score::Seq;
 use session::Session;
 use session::StationAnswer;
+use text_judge::frames_buffer;
+use text_judge::string_buffer;
+use text_reply::Reply;
+use text_reply::reply_answer;
 
 // Plays n frames on station 0 of the session that `seed` and `draw` open, and prints the listing at the
 // start of `reply`, where it fits.

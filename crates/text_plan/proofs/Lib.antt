@@ -1,3 +1,2 @@
 mod Telling
 pub mod Ready
-pub mod Listed

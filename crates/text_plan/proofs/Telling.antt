@@ -1,11 +1,8 @@
 -- The ways in which planning a text ends. Assumes nothing.
-use Prim.Native.Nat.{ℕ, zero, suc, _*_, _≤_, _<_}
-use mathlib.Core.Path.{_≡_, refl, sym, ap, _∙_}
+use Prim.Native.Nat.{ℕ, _*_, _≤_}
+use mathlib.Core.Path.{_≡_, sym, ap, _∙_}
 use mathlib.Core.List.{List, []}
-use native.Mathlib.Omega.{arith}
-use borrow.Author.Tests.{lt-ltb, le-ltb}
 use lib.ListN.{length, take}
-use Rattle.laws.proofs.If.{if-true, if-false}
 use Rattle.outcome.specs.Answer.{numberOf}
 use Rattle.outcome.specs.declared.answer.Outcome.{Outcome}
 use Rattle.outcome.specs.declared.answer.Outcome.the-variants as outcomes
@@ -15,16 +12,15 @@ use Rattle.session.specs.Opened.{sessionAt}
 use Rattle.session.specs.declared.session.Session.{Session}
 use Rattle.plan.specs.Plan.{unlent, planOn, Planned}
 use Rattle.plan.specs.declared.call.Plan.{Plan}
-use Rattle.plan_score.proofs.Same.{unlent-plan}
-use Rattle.text_read.specs.Text.{seqOf, textOf, Parses}
+use Rattle.plan.proofs.Refused.{unlent-plan}
+use Rattle.text_read.specs.Text.{seqOf, textOf}
 use Rattle.text_read.specs.declared.text.TextScore.{TextScore}
-use Rattle.text_read.specs.declared.text.Parsed.{Parsed}
-use Rattle.text_read.specs.declared.text.Parsed.the-variants.{Score, Broken}
-use Rattle.text_read.proofs.Said.{Said, parsed-broken, parsed-score, said-words}
-use Rattle.text.specs.Listing.{callOf, textRefusal}
-use Rattle.text.proofs.Refused.{refusal-long}
-use Rattle.text.proofs.Judged.{judged-broken, judged-frames, judged-notes, judged-none}
-use Rattle.text_plan.specs.TextPlan.{planSaid, planOfText, planRead, unlessRefused, textPlan, wordsLeft, Told}
+use Rattle.text_judge.specs.Call.{callOf}
+use Rattle.text_judge.specs.Judged.{Judges}
+use Rattle.text_judge.specs.declared.judge.Judged.{Judged}
+use Rattle.text_judge.specs.declared.judge.Judged.the-variants as judgement
+use Rattle.text_judge.proofs.Past.{judged-past, judged-refused, past-call}
+use Rattle.text_plan.specs.TextPlan.{planSaid, planOfText, planRead, textPlan, Told}
 use Rattle.text_plan.specs.declared.total.TextPlan.{TextPlan}
 use Rattle.text_plan.specs.declared.total.TextPlan.the-variants.{Refused}
 use Rattle.text_plan.specs.declared.total.TextPlan.the-variants as text-plans
@@ -46,53 +42,18 @@ module _ (x : TextScore) (ws : List ℕ) where
     said-refused e i = ap Refused i ∙ ap (planSaid x) (sym e ∙ outcome-is)
 
 -- ---- the text
-refused-by : (n : ℕ) (r : TextPlan) → 0 < n → Refused n ≡ unlessRefused n r
-refused-by zero r h = absurd (omega arith)
-refused-by (suc n) r h = refl
-
-module _ (text words₀ : List ℕ) where
-  refused-text : (n : ℕ) → 0 < n → n ≡ textRefusal text → Refused n ≡ textPlan text
+module _ {text words₀ words : List ℕ} {r : Judged} (h : Judges text words₀ r words) where
+  pub told-refused : {n : ℕ} → r ≡ judgement.Refused n → Told text words₀ (Refused n) words
   unfolding textPlan
-  refused-text n h e = rw (← e) (refused-by n (planRead (textOf text)) h)
+  told-refused is = record { answer = judged-refused h Refused (planRead (textOf text)) is; stored = h .stored }
 
-  pub told-long : 65536 < length text → Told text words₀ (Refused 16) words₀
-  unfolding wordsLeft
-  told-long h = record { answer = refused-text 16 (omega arith) (refusal-long text h); stored = if-true _ (lt-ltb _ _ h) refl }
-
-  module _ (few : length text ≤ 65536) {words : List ℕ} {r : Parsed} (h : Parses text words₀ r words) where
-    stored-left : words ≡ wordsLeft text words₀
-    unfolding wordsLeft
-    stored-left = if-false _ (le-ltb _ _ few) (h .words)
-
-    told-refused : (n : ℕ) → 0 < n → n ≡ textRefusal text → Told text words₀ (Refused n) words
-    told-refused n some e = record { answer = refused-text n some e; stored = stored-left }
-
-    pub told-broken : r ≡ Broken → Told text words₀ (Refused 15) words
-    told-broken told = told-refused 15 (omega arith) (judged-broken text few (parsed-broken h told))
-
-    module _ {x : TextScore} (told : r ≡ Score x) where
-      said : Said x (textOf text) words₀ words
-      said = parsed-score h told
-
-      pub told-frames : 2048 < x .numbers .n → Told text words₀ (Refused 16) words
-      told-frames long = told-refused 16 (omega arith) (judged-frames text few said long)
-
-      module _ (frames : x .numbers .n ≤ 2048) where
-        pub told-notes : 256 < x .count → Told text words₀ (Refused 16) words
-        told-notes many = told-refused 16 (omega arith) (judged-notes text few said frames many)
-
-        -- the planning call of the words that were read
-        planned-text : x .count ≤ 256 → (ws : List ℕ) → ws ≡ said .text .notes
-            → planSaid x (planOn (sessionAt (x .seed) (x .draw)) 0 (callOf (seqOf (x .numbers) (x .env) (x .sound)) ws (x .numbers .n))) ≡ textPlan text
-        unfolding textPlan planOfText
-        planned-text notes ws is =
-            rw (← judged-none text few said frames notes, said .is) (λ j.
-            let y = said .score j in
-            planSaid y (planOn (sessionAt (y .seed) (y .draw)) 0 (callOf (seqOf (y .numbers) (y .env) (y .sound)) (is j) (y .numbers .n))))
-
-        pub told-planned : x .count ≤ 256 → 1280 ≤ length words₀ → {p : TextPlan}
-            → p ≡ planSaid x (planOn (sessionAt (x .seed) (x .draw)) 0 (callOf (seqOf (x .numbers) (x .env) (x .sound)) (take (x .count * 5) words) (x .numbers .n)))
-            → Told text words₀ p words
-        told-planned notes room e =
-            let fits : x .count * 5 ≤ length words₀ = omega arith in
-            record { answer = e ∙ planned-text notes _ (said-words text said fits); stored = stored-left }
+  module _ (room : 1280 ≤ length words₀) {x : TextScore} (is : r ≡ judgement.Score x) where
+    -- the planning call of the words that were read
+    pub told-planned : {p : TextPlan} → p ≡ planSaid x (called x (take (x .count * 5) words)) → Told text words₀ p words
+    unfolding textPlan planOfText
+    told-planned e =
+        let q = judged-past text words₀ room h is in
+        record {
+          answer = e ∙ rw (q .none, q .is) (λ j. planSaid (q .score j) (planOn (sessionAt (q .score j .seed) (q .score j .draw)) 0 (past-call q j)));
+          stored = h .stored;
+        }

@@ -1,20 +1,18 @@
 -- The plan of a text score: its total of draws, by the planning call, or the number that refuses it, 20 and 21 never.
-use Prim.Native.Nat.{ℕ, zero, suc}
+use Prim.Native.Nat.{ℕ}
 use mathlib.Core.Path.{_≡_}
 use mathlib.Core.List.{List}
-use mathlib.Core.Bool.{cond}
-use lib.Dec.{ltb}
-use lib.ListN.{length}
 use Rattle.outcome.specs.Answer.{numberOf}
 use Rattle.outcome.specs.declared.answer.Outcome.{Outcome}
 use Rattle.outcome.specs.declared.answer.Outcome.the-variants as outcomes
 use Rattle.session.specs.Opened.{sessionAt}
 use Rattle.plan.specs.Plan.{planOn}
 use Rattle.text_digits.specs.Read.{Read, got, broken}
-use Rattle.text_read.specs.Notes.{wordsAfter}
-use Rattle.text_read.specs.Text.{Text, seqIn, textOf, textScoreOf, notesRead}
+use Rattle.text_read.specs.Text.{Text, seqIn, textOf, textScoreOf}
 use Rattle.text_read.specs.declared.text.TextScore.{TextScore}
-use Rattle.text.specs.Listing.{callOf, textRefusal}
+use Rattle.text_judge.specs.Call.{callOf}
+use Rattle.text_judge.specs.Refusal.{textRefusal, unlessRefused}
+use Rattle.text_judge.specs.Judged.{wordsLeft}
 use Rattle.text_plan.specs.declared.total.TextPlan.{TextPlan}
 use Rattle.text_plan.specs.declared.total.TextPlan.the-variants.{Planned, Refused}
 
@@ -32,18 +30,9 @@ abbrev pub planRead : Read Text → TextPlan
 planRead broken = Refused 15
 planRead (got t rest) = planOfText t
 
--- r, unless a number that is not 0 refuses the text
-abbrev pub unlessRefused : ℕ → TextPlan → TextPlan
-unlessRefused zero r = r
-unlessRefused (suc number) r = Refused (suc number)
-
 -- "text only, before all others: 16 .. 15 .. 16", as for a text that is played
 unfoldable pub textPlan : List ℕ → TextPlan
-textPlan text = unlessRefused (textRefusal text) (planRead (textOf text))
-
--- what the lent words then hold: nothing is read of a text that is too long
-unfoldable pub wordsLeft : List ℕ → List ℕ → List ℕ
-wordsLeft text words₀ = cond (ltb 65536 (length text)) words₀ (wordsAfter (notesRead (textOf text)) words₀)
+textPlan text = unlessRefused Refused (textRefusal text) (planRead (textOf text))
 
 -- The contract of a planner of texts that is lent `words₀` and leaves `words`.
 pub record Told (text words₀ : List ℕ) (r : TextPlan) (words : List ℕ) : Type 0 where

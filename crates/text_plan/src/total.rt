@@ -2,7 +2,7 @@
 ghost use mathlib.Core.Path.{_≡_};
 ghost use Rattle.session.specs.Opened.{sessionAt};
 ghost use Rattle.text_read.specs.Text.{seqOf};
-ghost use Rattle.text.specs.Listing.{callOf};
+ghost use Rattle.text_judge.specs.Call.{callOf};
 ghost use Rattle.plan.specs.Plan.{planOn};
 ghost use Rattle.text_plan.specs.TextPlan.{planSaid};
 use outcome::Outcome;

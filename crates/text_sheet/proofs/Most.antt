@@ -15,9 +15,11 @@ use Rattle.cue_pages.specs.Sheet.{sheetOf}
 use Rattle.cue_pages.proofs.Long.{sheet-is-long, longest}
 use Rattle.text_digits.specs.Read.{Read, got, broken}
 use Rattle.text_read.specs.Text.{Text, seqIn, textOf}
-use Rattle.text.specs.Listing.{callOf, textRefusal}
-use Rattle.text.proofs.Refused.{unrefused-read}
-use Rattle.text_sheet.specs.TextSheet.{SheetResult, refused, accepted, sheetFitting, sheetUnless, scoreSheet, sheetRead, unlessRefused, textSheet, answerOf, SheetPrinted}
+use Rattle.text_judge.specs.Call.{callOf}
+use Rattle.text_judge.specs.Refusal.{textRefusal, unlessRefused}
+use Rattle.text_judge.proofs.Refused.{unrefused-read}
+use Rattle.text_judge.proofs.Unless.{unless-same}
+use Rattle.text_sheet.specs.TextSheet.{SheetResult, refused, accepted, sheetFitting, sheetUnless, scoreSheet, sheetRead, textSheet, answerOf, SheetPrinted}
 use Rattle.text_sheet.specs.declared.sheet.Sheet.{Sheet}
 use Rattle.text_sheet.specs.declared.sheet.Sheet.the-variants.{Bytes}
 
@@ -35,21 +37,17 @@ wholeRead broken = refused 15
 wholeRead (got t rest) = let s = callOf (seqIn t) (t .notes) (t .numbers .n) in sheetUnless (refusalAt s (t .draw)) (accepted (sheetOf s (t .draw)))
 
 unfoldable pub wholeSheet : List ℕ → SheetResult
-wholeSheet text = unlessRefused (textRefusal text) (wholeRead (textOf text))
+wholeSheet text = unlessRefused refused (textRefusal text) (wholeRead (textOf text))
 
 fitting-by : (v : Verdict) (room : ℕ) (sheet : List ℕ) → (v ≡ Fine → length sheet ≤ room) → sheetUnless v (sheetFitting room sheet) ≡ sheetUnless v (accepted sheet)
 fitting-by Fine room sheet f = rw (le-ltb room (length sheet) (f refl))
 fitting-by (Refuse r) room sheet f = refl
 
-unless-same : (k : ℕ) (p q : SheetResult) → (k ≡ 0 → p ≡ q) → unlessRefused k p ≡ unlessRefused k q
-unless-same zero p q f = f refl
-unless-same (suc k) p q f = refl
-
 -- THE LAW: no sheet is longer, so that 34 never refuses such a page
 pub never-short : (text : List ℕ) (room : ℕ) → 18692 ≤ room → textSheet text room ≡ wholeSheet text
 unfolding textSheet wholeSheet scoreSheet
 never-short text room long =
-    unless-same (textRefusal text) (sheetRead room (textOf text)) (wholeRead (textOf text)) (λ none.
+    unless-same refused (textRefusal text) (sheetRead room (textOf text)) (wholeRead (textOf text)) (λ none.
     let u = unrefused-read text none in
     let t = u .said in
     let s = callOf (seqIn t) (t .notes) (t .numbers .n) in
@@ -83,7 +81,7 @@ read-within room (got t rest) =
     let s = callOf (seqIn t) (t .notes) (t .numbers .n) in
     unless-within (refusalAt s (t .draw)) room (sheetFitting room (sheetOf s (t .draw))) (fitting-within room (sheetOf s (t .draw)))
 
-number-within : (k room : ℕ) (r : SheetResult) → Within room r → Within room (unlessRefused k r)
+number-within : (k room : ℕ) (r : SheetResult) → Within room r → Within room (unlessRefused refused k r)
 number-within zero room r h = h
 number-within (suc k) room r h = refused-within room (suc k)
 

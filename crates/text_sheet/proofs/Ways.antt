@@ -12,13 +12,13 @@ use Rattle.score.specs.Score.{Score, noteCount}
 use Rattle.score.specs.Refusals.{refusalAt}
 use Rattle.plan.specs.Plan.{plannedDraws, planRefusalAt, outcomeOf, plannedAt, planOn}
 use Rattle.plan.proofs.Refused.{refused-alike-at}
-use Rattle.text_read.specs.Notes.{countOf}
 use Rattle.text_read.specs.Text.{Text, seqOf, seqIn, textOf, textScoreOf}
 use Rattle.text_read.specs.declared.text.TextScore.{TextScore}
-use Rattle.text.specs.Listing.{callOf, textRefusal}
-use Rattle.text.proofs.Refused.{unrefused-read}
+use Rattle.text_judge.specs.Call.{callOf}
+use Rattle.text_judge.specs.Refusal.{textRefusal, unlessRefused}
+use Rattle.text_judge.proofs.Refused.{unrefused-read}
+use Rattle.text_judge.proofs.Past.{past-call}
 use Rattle.text_plan.specs.TextPlan.{planSaid, planOfText, planRead, textPlan, Told}
-use Rattle.text_plan.specs.TextPlan as plans
 use Rattle.text_plan.specs.declared.total.TextPlan.{TextPlan}
 use Rattle.text_plan.specs.declared.total.TextPlan.the-variants as text-plans
 use Rattle.text_plan.proofs.Ready.{Ready, planned-ready}
@@ -26,7 +26,7 @@ use Rattle.text_listing.specs.Printed.{put}
 use Rattle.text_listing.specs.Printed as put
 use Rattle.cue_pages.specs.Sheet.{sheetOf, sheetLength}
 use Rattle.cue_pages.proofs.Long.{sheet-is-long}
-use Rattle.text_sheet.specs.TextSheet.{SheetResult, refused, sheetFitting, sheetUnless, scoreSheet, sheetRead, unlessRefused, textSheet, SheetPrinted}
+use Rattle.text_sheet.specs.TextSheet.{SheetResult, refused, sheetFitting, sheetUnless, scoreSheet, sheetRead, textSheet, SheetPrinted}
 use Rattle.text_sheet.specs.declared.sheet.Sheet.{Sheet}
 use Rattle.text_sheet.specs.declared.sheet.Sheet.the-variants.{Bytes, Refused}
 
@@ -67,7 +67,8 @@ refused-by : (v : Verdict) (x : TextScore) (total : ℕ) (q : SheetResult) {n : 
 refused-by Fine x total q e = cc
 refused-by (Refuse r) x total q e = cc
 
-either : (k : ℕ) (r : TextPlan) (q : SheetResult) {n : ℕ} → text-plans.Refused n ≡ plans.unlessRefused k r → (k ≡ 0 → text-plans.Refused n ≡ r → refused n ≡ q) → refused n ≡ unlessRefused k q
+either : (k : ℕ) (r : TextPlan) (q : SheetResult) {n : ℕ} → text-plans.Refused n ≡ unlessRefused text-plans.Refused k r → (k ≡ 0 → text-plans.Refused n ≡ r → refused n ≡ q)
+    → refused n ≡ unlessRefused refused k q
 either zero r q e f = f refl e
 either (suc k) r q e f = cc
 
@@ -95,25 +96,18 @@ module _ (room : ℕ) where
       abbrev called : Score
       called = callOf (seqOf (x .numbers) (x .env) (x .sound)) (take (x .count * 5) words) (x .numbers .n)
 
-      same-call : called ≡ callOf (seqIn (ready .said)) (ready .said .notes) (ready .said .numbers .n)
-      same-call = λ j.
-          let y = ready .score j in
-          callOf (seqOf (y .numbers) (y .env) (y .sound)) (ready .notes j) (y .numbers .n)
-
-      same-draw : x .draw ≡ ready .said .draw
-      same-draw = ap (λ (y : TextScore). y .draw) (ready .score)
+      same-draw : x .draw ≡ ready .past .said .draw
+      same-draw = ap (λ (y : TextScore). y .draw) (ready .past .score)
 
       pub call-accepted : refusalAt called (x .draw) ≡ Fine
-      call-accepted = (λ j. refusalAt (same-call j) (same-draw j)) ∙ ready .fine
+      call-accepted = (λ j. refusalAt (past-call (ready .past) j) (same-draw j)) ∙ ready .fine
 
       pub words-few : x .count * 5 ≤ 1280
-      words-few =
-          let many : x .count ≡ countOf (ready .said .notes) = ap (λ (y : TextScore). y .count) (ready .score) in
-          omega (arith, ready .few)
+      words-few = omega (arith, ready .past .few)
 
       pub slice-few : length (take (x .count * 5) words) ≤ 1280
       slice-few = omega (arith, words-few, length-take (x .count * 5) words)
 
       pub text-planned : sheetFitting room (sheetOf called (x .draw)) ≡ textSheet text room
       unfolding textSheet scoreSheet
-      text-planned = (λ j. sheetFitting room (sheetOf (same-call j) (same-draw j))) ∙ rw (ready .none, ready .is, ready .fine) refl
+      text-planned = (λ j. sheetFitting room (sheetOf (past-call (ready .past) j) (same-draw j))) ∙ rw (ready .past .none, ready .past .is, ready .fine) refl

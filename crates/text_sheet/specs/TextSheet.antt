@@ -1,6 +1,6 @@
 -- The cue sheet of a text score (02, Card 7): "The call hands back the sheet's length in bytes, and the page buffer after it stays. It refuses a page buffer too short for the whole
 -- sheet with 34, after 22."
-use Prim.Native.Nat.{ℕ, zero, suc}
+use Prim.Native.Nat.{ℕ}
 use mathlib.Core.Path.{_≡_}
 use mathlib.Core.List.{List, _++_}
 use mathlib.Core.Bool.{cond}
@@ -13,7 +13,8 @@ use Rattle.score.specs.Score.{Score}
 use Rattle.score.specs.Refusals.{refusalAt}
 use Rattle.text_digits.specs.Read.{Read, got, broken}
 use Rattle.text_read.specs.Text.{Text, seqIn, textOf}
-use Rattle.text.specs.Listing.{callOf, textRefusal}
+use Rattle.text_judge.specs.Call.{callOf}
+use Rattle.text_judge.specs.Refusal.{textRefusal, unlessRefused}
 use Rattle.cue_pages.specs.Sheet.{sheetOf}
 use Rattle.text_sheet.specs.declared.sheet.Sheet.{Sheet}
 use Rattle.text_sheet.specs.declared.sheet.Sheet.the-variants.{Bytes, Refused}
@@ -41,13 +42,8 @@ abbrev pub sheetRead : ℕ → Read Text → SheetResult
 sheetRead room broken = refused 15
 sheetRead room (got t rest) = scoreSheet room (callOf (seqIn t) (t .notes) (t .numbers .n)) (t .draw)
 
--- r, unless a number that is not 0 refuses the text
-abbrev pub unlessRefused : ℕ → SheetResult → SheetResult
-unlessRefused zero r = r
-unlessRefused (suc number) r = refused (suc number)
-
 unfoldable pub textSheet : List ℕ → ℕ → SheetResult
-textSheet text room = unlessRefused (textRefusal text) (sheetRead room (textOf text))
+textSheet text room = unlessRefused refused (textRefusal text) (sheetRead room (textOf text))
 
 -- "The call hands back the sheet's length in bytes"
 abbrev pub answerOf : SheetResult → Sheet

@@ -1,18 +1,10 @@
 // The call on a text.
-ghost use mathlib.Core.Path.{_≡_};
 ghost use lib.ListN.{length};
 ghost use Rattle.text_sheet.specs.TextSheet.{textSheet, SheetPrinted};
 use crate::sheet::Sheet;
 use crate::sheet::print_score;
+use text_judge::words_buffer;
 use text_plan::TextPlan;
-
-// The words of 256 notes. The contract says only how long it is, since nothing that it first holds is
-// ever read.
-fn words_buffer() -> [u32; 1280]
-    ensures { λ r. ⌜ 1280 ≡ length r ⌝ }
-{
-    [0u32; 1280]
-}
 
 // Prints the cue sheet of a text score at the start of `page`; the bytes after it stay. A score that is
 // refused, and a sheet that does not fit, change nothing. No sheet has more than 18,692 bytes.

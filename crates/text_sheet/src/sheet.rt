@@ -5,7 +5,7 @@ ghost use lib.ListN.{length};
 ghost use Rattle.outcome.specs.declared.answer.Verdict.the-variants.{Fine};
 ghost use Rattle.score.specs.Refusals.{refusalAt};
 ghost use Rattle.text_read.specs.Text.{seqOf};
-ghost use Rattle.text.specs.Listing.{callOf};
+ghost use Rattle.text_judge.specs.Call.{callOf};
 ghost use Rattle.cue_pages.specs.Sheet.{sheetOf};
 ghost use Rattle.text_sheet.specs.TextSheet.{sheetFitting, SheetPrinted};
 use cue_pages::put_sheet;

@@ -1,5 +1,5 @@
 -- Use where a buffer is to be long enough for every file of a text score: `room-enough`. A file is longest where all 2,048 frames are written. Assumes nothing.
-use Prim.Native.Nat.{ℕ, zero, suc, _≤_}
+use Prim.Native.Nat.{ℕ, _≤_}
 use mathlib.Core.Path.{_≡_, refl}
 use mathlib.Core.List.{List, map}
 use native.Mathlib.Omega.{arith}
@@ -13,16 +13,18 @@ use Rattle.score.specs.Score.{noteCount, scoreDraws}
 use Rattle.score.specs.Refusals.{refusalAt}
 use Rattle.score.specs.declared.seq.Seq.{Seq}
 use Rattle.tally.specs.Tally.{tallied, tally}
+use Rattle.tally.proofs.Lengths.{taken-length}
 use Rattle.text_listing.specs.Lines.{frameBits}
 use Rattle.text_read.specs.Text.{seqIn, textOf}
-use Rattle.text.specs.Listing.{callOf, textRefusal}
-use Rattle.text.proofs.Refused.{unrefused-read}
-use Rattle.text.proofs.Most.{taken-length}
-use Rattle.wave_file.specs.Refusal.{FileResult}
+use Rattle.text_judge.specs.Call.{callOf}
+use Rattle.text_judge.specs.Refusal.{textRefusal}
+use Rattle.text_judge.proofs.Refused.{unrefused-read}
+use Rattle.text_judge.proofs.Unless.{unless-same}
+use Rattle.wave_file.specs.Refusal.{refused}
 use Rattle.wave_write.specs.Header.{waveFile}
 use Rattle.wave_write.specs.Write.{writeResult}
 use Rattle.wave_write.proofs.Files.{file-length}
-use Rattle.text_wave.specs.TextFile.{resultFile, playedFile, fileRead, unlessRefused, textFile}
+use Rattle.text_wave.specs.TextFile.{resultFile, playedFile, fileRead, textFile}
 
 module _ (room : ℕ) (h : 8250 ≤ room) where
   written-enough : (rate : ℕ) (samples : List ℕ) → length samples ≤ 2048 → writeResult rate samples room ≡ writeResult rate samples 8250
@@ -44,15 +46,11 @@ module _ (room : ℕ) (h : 8250 ≤ room) where
       let frames = taken-length seed s draw (noteCount s) in
       result-enough (seq .timing .rate) (refusalAt s draw) (scoreDraws s) _ (omega arith)
 
-  unless-enough : (n : ℕ) (a b : FileResult (List ℕ)) → (n ≡ 0 → a ≡ b) → unlessRefused n a ≡ unlessRefused n b
-  unless-enough zero a b f = f refl
-  unless-enough (suc n) a b f = refl
-
   -- With a buffer of 8,250 bytes or more the file of a text score is never refused for want of room.
   pub room-enough : (text : List ℕ) → textFile text room ≡ textFile text 8250
   unfolding textFile
   room-enough text =
-      unless-enough (textRefusal text) (fileRead room (textOf text)) (fileRead 8250 (textOf text))
+      unless-same refused (textRefusal text) (fileRead room (textOf text)) (fileRead 8250 (textOf text))
       (λ e.
       let u = unrefused-read text e in
       let t = u .said in

@@ -1,9 +1,8 @@
--- Which file a text score has: of its one call by the theorem about lists of calls, and which of its cases a text is. Assumes nothing.
-use Prim.Native.Nat.{ℕ, zero, suc, _≤_, _<_}
-use mathlib.Core.Path.{_≡_, refl, sym, ap, _∙_}
+-- Which file a text score has: of its one call by the theorem about lists of calls, and of a text that was judged. Assumes nothing.
+use Prim.Native.Nat.{ℕ, _*_}
+use mathlib.Core.Path.{_≡_, sym, ap, _∙_}
 use mathlib.Core.List.{List, [], _∷_}
-use native.Mathlib.Omega.{arith}
-use lib.ListN.{length}
+use lib.ListN.{length, take}
 use Rattle.score.specs.Score.{Score}
 use Rattle.score_contract.specs.ScoreCall.{scoreIn}
 use Rattle.score_contract.specs.SessionCall.{SessionEvent, SessionScored, onStation}
@@ -14,19 +13,19 @@ use Rattle.session.specs.declared.session.Session.{Session}
 use Rattle.tally.specs.Tally.{tally}
 use Rattle.tally.specs.Claim.{none, call, seenIn}
 use Rattle.tally.proofs.AllCalls.{all-calls}
-use Rattle.text_digits.specs.Read.{broken}
 use Rattle.text_read.specs.Text.{seqOf, textOf}
 use Rattle.text_read.specs.declared.text.TextScore.{TextScore}
-use Rattle.text_read.proofs.Said.{Said}
-use Rattle.text.specs.Listing.{callOf, textRefusal}
-use Rattle.text.proofs.Refused.{refusal-long}
-use Rattle.text.proofs.Judged.{judged-broken, judged-frames, judged-notes, judged-none}
+use Rattle.text_judge.specs.Call.{callOf}
+use Rattle.text_judge.specs.Judged.{Judges}
+use Rattle.text_judge.specs.declared.judge.Judged.{Judged}
+use Rattle.text_judge.specs.declared.judge.Judged.the-variants as judgement
+use Rattle.text_judge.proofs.Past.{Past, judged-refused}
 use Rattle.wave_file.specs.Refusal.{FileResult, refused, partOf, numberOf}
 use Rattle.wave_file.specs.declared.refusal.FileRefusal.{FileRefusal}
 use Rattle.wave_write.specs.Write.{writeResult, writtenIn, fileAfter, Wrote}
 use Rattle.wave_write.specs.declared.write.Written.{Written}
 use Rattle.wave_write.specs.declared.write.Written.the-variants as written
-use Rattle.text_wave.specs.TextFile.{resultFile, oneFile, playedFile, fileRead, unlessRefused, textFile, Filed}
+use Rattle.text_wave.specs.TextFile.{resultFile, oneFile, playedFile, fileRead, textFile, Filed}
 use Rattle.text_wave.specs.declared.frames.TextWave.{TextWave}
 use Rattle.text_wave.specs.declared.frames.TextWave.the-variants.{Bytes, Refused}
 
@@ -54,34 +53,15 @@ played-by seq notes n seed draw room a e opened first scored is =
     let all = all-calls seed draw (one ∷ []) (one .answer .station) (call one (first-station seed draw a e opened first scored) none) in
     ap (oneFile rate room) (all .results) ∙ ap (λ (s : Score). oneFile rate room (tally seed draw (s ∷ []) .results)) is
 
--- ---- by which number a text is refused, and which file it then has
-refused-by : (n : ℕ) (r : FileResult (List ℕ)) → 0 < n → refused n ≡ unlessRefused n r
-refused-by zero r h = absurd (omega arith)
-refused-by (suc n) r h = refl
+-- ---- which file a text has that was judged
+pub file-refused : {text words₀ words : List ℕ} {r : Judged} (room : ℕ) (h : Judges text words₀ r words) {n : ℕ} → r ≡ judgement.Refused n → refused n ≡ textFile text room
+unfolding textFile
+file-refused {text} room h is = judged-refused h refused (fileRead room (textOf text)) is
 
-module _ (text : List ℕ) (room : ℕ) where
-  file-refused : (n : ℕ) → 0 < n → n ≡ textRefusal text → refused n ≡ textFile text room
-  unfolding textFile
-  file-refused n h e = rw (← e) (refused-by n (fileRead room (textOf text)) h)
-
-  pub file-long : 65536 < length text → refused 16 ≡ textFile text room
-  file-long h = file-refused 16 (omega arith) (refusal-long text h)
-
-  module _ (few : length text ≤ 65536) where
-    pub file-broken : textOf text ≡ broken → refused 15 ≡ textFile text room
-    file-broken e = file-refused 15 (omega arith) (judged-broken text few e)
-
-    module _ {x : TextScore} {words₀ words : List ℕ} (said : Said x (textOf text) words₀ words) where
-      pub file-frames : 2048 < x .numbers .n → refused 16 ≡ textFile text room
-      file-frames h = file-refused 16 (omega arith) (judged-frames text few said h)
-
-      pub file-notes : x .numbers .n ≤ 2048 → 256 < x .count → refused 16 ≡ textFile text room
-      file-notes f h = file-refused 16 (omega arith) (judged-notes text few said f h)
-
-      pub file-played : x .numbers .n ≤ 2048 → x .count ≤ 256 → (ws : List ℕ) → ws ≡ said .text .notes
-          → playedFile (seqOf (x .numbers) (x .env) (x .sound)) ws (x .numbers .n) (x .seed) (x .draw) room ≡ textFile text room
-      unfolding textFile
-      file-played f h ws is =
-          rw (← judged-none text few said f h, said .is) (λ j.
-          let y = said .score j in
-          playedFile (seqOf (y .numbers) (y .env) (y .sound)) (is j) (y .numbers .n) (y .seed) (y .draw) room)
+pub file-played : {text : List ℕ} {x : TextScore} {words : List ℕ} (room : ℕ) (p : Past text x words)
+    → playedFile (seqOf (x .numbers) (x .env) (x .sound)) (take (x .count * 5) words) (x .numbers .n) (x .seed) (x .draw) room ≡ textFile text room
+unfolding textFile
+file-played room p =
+    rw (p .none, p .is) (λ j.
+    let y = p .score j in
+    playedFile (seqOf (y .numbers) (y .env) (y .sound)) (p .notes j) (y .numbers .n) (y .seed) (y .draw) room)

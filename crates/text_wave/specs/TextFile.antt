@@ -1,5 +1,5 @@
 -- The WAVE file of a text score: its frames, "a NaN as 7fc00000", at its rate. A refused score has none.
-use Prim.Native.Nat.{ℕ, zero, suc}
+use Prim.Native.Nat.{ℕ}
 use mathlib.Core.Path.{_≡_}
 use mathlib.Core.List.{List, [], _∷_, map}
 use lib.ListN.{length}
@@ -10,7 +10,8 @@ use Rattle.tally.specs.Tally.{tally}
 use Rattle.text_digits.specs.Read.{Read, got, broken}
 use Rattle.text_read.specs.Text.{Text, seqIn, textOf}
 use Rattle.text_listing.specs.Lines.{frameBits}
-use Rattle.text.specs.Listing.{callOf, textRefusal}
+use Rattle.text_judge.specs.Call.{callOf}
+use Rattle.text_judge.specs.Refusal.{textRefusal, unlessRefused}
 use Rattle.wave_file.specs.Refusal.{FileResult, refused, accepted, partOf}
 use Rattle.wave_write.specs.Write.{writeResult, fileAfter}
 use Rattle.text_wave.specs.declared.frames.TextWave.{TextWave}
@@ -35,13 +36,8 @@ abbrev pub fileRead : ℕ → Read Text → FileResult (List ℕ)
 fileRead room broken = refused 15
 fileRead room (got t rest) = playedFile (seqIn t) (t .notes) (t .numbers .n) (t .seed) (t .draw) room
 
--- r, unless a number that is not 0 refuses the text
-abbrev pub unlessRefused : ℕ → FileResult (List ℕ) → FileResult (List ℕ)
-unlessRefused zero r = r
-unlessRefused (suc number) r = refused (suc number)
-
 unfoldable pub textFile : List ℕ → ℕ → FileResult (List ℕ)
-textFile text room = unlessRefused (textRefusal text) (fileRead room (textOf text))
+textFile text room = unlessRefused refused (textRefusal text) (fileRead room (textOf text))
 
 -- the number or the length that an answer gives
 abbrev pub saidIn : TextWave → FileResult ℕ

@@ -1,5 +1,4 @@
 // The score call of a text score.
-ghost use mathlib.Core.Path.{_≡_};
 ghost use Prim.Native.Nat.{_≤_};
 ghost use lib.ListN.{length};
 ghost use Rattle.outcome.specs.Answer.{seen};
@@ -10,19 +9,8 @@ use outcome::Outcome;
 use score::Seq;
 use session::Answer;
 use session::Session;
-
-// Frames, or a note's samples: n is at most 2,048.
-fn frames_buffer() -> [f32; 2048]
-    ensures { λ r. ⌜ 2048 ≡ length r ⌝ }
-{
-    [0.0f32; 2048]
-}
-
-fn string_buffer() -> [f32; 9600]
-    ensures { λ r. ⌜ 9600 ≡ length r ⌝ }
-{
-    [0.0f32; 9600]
-}
+use text_judge::frames_buffer;
+use text_judge::string_buffer;
 
 // A score call's answer and the frames that it left.
 fn write_answer(rate: u32, answer: Answer, frames: &[f32], file: &mut [u8]) -> TextWave

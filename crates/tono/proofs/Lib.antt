@@ -1,2 +1,1 @@
 mod Returning
-mod Sheets

@@ -4,7 +4,8 @@ use Prim.Native.Nat.{ℕ}
 use mathlib.Core.Path.{_≡_}
 use mathlib.Core.List.{List}
 use lib.IntN.{ℤ}
-use Rattle.text.specs.Reply.{replyOf, bytesAfter, returnOf}
+use Rattle.text_reply.specs.Reply.{returnOf}
+use Rattle.text.specs.Reply.{replyOf, bytesAfter}
 
 pub record Answered (score reply₀ : List ℕ) (said : ℤ) (reply : List ℕ) : Type 0 where
   pub answer : said ≡ returnOf (replyOf score reply₀)

@@ -8,7 +8,6 @@ mod wave; // wave.rt: the calls on WAVE files
 
 ghost use Rattle.tono.specs.Answered.{Answered};
 pub use cue_sheet::tono_cue_sheet;
-use text::Reply;
 
 // Writes the listing of the text score `score` at the start of `reply`, and returns its length in
 // bytes. Where the reply is shorter than the listing it returns -23, and no byte changes.
@@ -16,8 +15,6 @@ use text::Reply;
 pub extern "C" fn tono_play(score: &[u8], reply: &mut [u8]) -> i64
     ensures { λ r. ⌜ Answered (now (score .entry)) (now (reply .entry)) r (now (reply .exit)) ⌝ }
 {
-    match text::play_text(score, reply) {
-        Reply::Listing(length) => length as i64,
-        Reply::Short => -23,
-    }
+    let said = text::play_text(score, reply);
+    said.as_i64()
 }

@@ -1,5 +1,5 @@
 // Whole scores from C: the score call and the planning call.
-ghost use Rattle.tono_seq.specs.Plan.{PlanExported};
+ghost use Rattle.raw_plan.specs.Plan.{PlanExported};
 ghost use Rattle.tono_seq.specs.Score.{ScoreExported};
 
 // Plays a score on a station of a session. 0 where the call is accepted, else the refusal's number.
@@ -145,7 +145,7 @@ pub extern "C" fn tono_planned_draws(
       draws = now (draws .exit);
     }) ⌝ }
 {
-    tono_seq::planned_draws(
+    raw_plan::planned_draws(
         seeds,
         counts,
         draws,

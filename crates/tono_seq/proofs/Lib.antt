@@ -1,6 +1,2 @@
-mod Eight
-mod Whole
-mod Ends
 mod NoteEnds
 mod ScoreEnds
-mod PlanEnds

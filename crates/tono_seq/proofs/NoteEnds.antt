@@ -4,15 +4,15 @@ use mathlib.Core.Path.{_≡_, refl, sym, ap, _∙_}
 use mathlib.Core.List.{[]}
 use Rattle.rng.specs.declared.Rng.{Rng}
 use Rattle.dsl.specs.declared.knobs.SeqVoice.{SeqVoice}
-use Rattle.outcome.specs.Answer.{Result, refused, accepted, seen, reported}
+use Rattle.outcome.specs.Answer.{Result, refused, accepted, seen, numberOfResult, reported}
 use Rattle.note.specs.NoteCall.{NoteEvent, Voiced, noteResultOf, noteResultIn, rngAfter}
 use Rattle.note.specs.declared.answer.NoteAnswer.{NoteAnswer}
 use Rattle.raw_knobs.specs.Knobs.{voiceAt}
-use Rattle.tono_seq.specs.Called.{Called, none, made, numberIn, stateAfterResult, stateAfterCall, Places, Holds}
+use Rattle.raw_call.specs.Called.{Called, none, made, stateAfterResult, stateAfterCall, Places, Holds}
 use Rattle.tono_seq.specs.Note.{NoteExport, NoteExported, handedWith, noteCalledWith, noteCalled}
 use Rattle.raw_knobs.specs.declared.VoiceAt.{VoiceAt}
 use Rattle.raw_knobs.specs.declared.VoiceAt.the-variants.{Voice, Nothing}
-use Rattle.tono_seq.proofs.Ends.{Returned, made-holds}
+use Rattle.raw_call.proofs.Ends.{Returned, made-holds}
 
 -- the note call that was made, with the voice v and the generator g; a is its answer
 abbrev callOf : NoteExport → SeqVoice → Rng → NoteAnswer → NoteEvent
@@ -54,7 +54,7 @@ module _ (e : NoteExport) where
     returned : Returned p result (a .outcome)
     returned = record { answer = call .answer; frames = call .frames; string = call .string }
 
-    pub call-holds : p .number ≡ numberIn (seen (a .outcome) []) → p .draws ≡ reported (seen (a .outcome) []) → e .state ≡ a .rng .0 → NoteExported e
+    pub call-holds : p .number ≡ numberOfResult (seen (a .outcome) []) → p .draws ≡ reported (seen (a .outcome) []) → e .state ≡ a .rng .0 → NoteExported e
     call-holds n d s =
         let after = s ∙ ap (λ (x : Rng). x .0) (call .rng) ∙ state-after g result ∙ ap (λ (x : ℕ). stateAfterResult x result) state in
         exported (made result) called (made-holds returned n d) after

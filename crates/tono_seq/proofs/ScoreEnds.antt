@@ -7,7 +7,7 @@ use native.Mathlib.Omega.{arith}
 use borrow.Author.Tests.{ltb-true, ltb-false}
 use lib.Dec.{ltb}
 use lib.ListN.{length, drop, set}
-use Rattle.outcome.specs.Answer.{Result, seen, reported}
+use Rattle.outcome.specs.Answer.{Result, seen, numberOfResult, reported}
 use Rattle.dsl.specs.declared.knobs.Adsr.{Adsr}
 use Rattle.dsl.specs.declared.knobs.SeqVoice.{SeqVoice}
 use Rattle.raw_knobs.specs.Knobs.{voiceAt, envAt}
@@ -17,14 +17,14 @@ use Rattle.score_contract.proofs.Stations.{nowhere, set-after}
 use Rattle.session.specs.Opened.{countIn, Eight}
 use Rattle.session.specs.declared.session.Session.{Session}
 use Rattle.session.specs.declared.session.Answer.{Answer}
-use Rattle.tono_seq.specs.Called.{Called, none, made, numberIn, countsAfterCall, freeAfterCall, Places, Holds}
-use Rattle.tono_seq.specs.Raw.{sessionIn, seqWith, partsIn}
-use Rattle.tono_seq.specs.Score.{ScoreExport, ScoreExported, scoreCalledOn, scoreCalled}
-use Rattle.tono_seq.specs.Stations.{placed}
-use Rattle.tono_seq.specs.declared.raw.Parts.{Parts}
-use Rattle.tono_seq.specs.declared.raw.Parts.the-variants.{Both, Nothing}
-use Rattle.tono_seq.proofs.Ends.{Returned, made-holds}
-use Rattle.tono_seq.proofs.Whole.{call-eights}
+use Rattle.raw_call.specs.Called.{Called, none, made, freeAfterCall, Places, Holds}
+use Rattle.raw_call.specs.Raw.{sessionIn, seqWith, partsIn}
+use Rattle.tono_seq.specs.Score.{ScoreExport, countsAfterCall, ScoreExported, scoreCalledOn, scoreCalled}
+use Rattle.raw_call.specs.Stations.{placed}
+use Rattle.raw_call.specs.declared.raw.Parts.{Parts}
+use Rattle.raw_call.specs.declared.raw.Parts.the-variants.{Both, Nothing}
+use Rattle.raw_call.proofs.Ends.{Returned, made-holds}
+use Rattle.raw_call.proofs.Whole.{call-eights}
 
 -- the score call that was made, with the `Seq` q; b is its answer
 abbrev callOf : ScoreExport → Seq → Answer → SessionEvent
@@ -85,7 +85,7 @@ module _ (e : ScoreExport) where
     nowhere-stays : 7 < e .station → sessionAfter a (e .station) result ≡ a
     nowhere-stays past = ap (sessionAfter a (e .station)) (nowhere a (callOf e (seqWith v m (e .raw)) b) past)
 
-    pub call-holds : p .number ≡ numberIn (seen (b .outcome) []) → p .draws ≡ reported (seen (b .outcome) [])
+    pub call-holds : p .number ≡ numberOfResult (seen (b .outcome) []) → p .draws ≡ reported (seen (b .outcome) [])
         → e .counts ≡ placed (e .raw .counts) (e .station) (b .session .draws) → ScoreExported e
     call-holds n d c =
         let after = ap (λ (s : Session). placed (e .raw .counts) (e .station) (s .draws)) (call .session) ∙ placed-after a eights (e .station) result nowhere-stays in

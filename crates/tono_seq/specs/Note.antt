@@ -8,7 +8,7 @@ use Rattle.dsl.specs.declared.knobs.SeqVoice.{SeqVoice}
 use Rattle.note_verdict.specs.NoteRefusals.{NoteHanded}
 use Rattle.note.specs.NoteCall.{noteResultOf}
 use Rattle.raw_knobs.specs.Knobs.{voiceAt}
-use Rattle.tono_seq.specs.Called.{Called, none, made, stateAfterCall, Places, Holds}
+use Rattle.raw_call.specs.Called.{Called, none, made, stateAfterCall, Places, Holds}
 use Rattle.raw_knobs.specs.declared.VoiceAt.{VoiceAt}
 use Rattle.raw_knobs.specs.declared.VoiceAt.the-variants.{Voice, Nothing}
 

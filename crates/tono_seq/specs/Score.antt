@@ -6,11 +6,12 @@ use lib.ListN.{length, drop}
 use lib.Ieee.{Float}
 use Rattle.score.specs.Score.{Score, handed}
 use Rattle.score.specs.declared.seq.Seq.{Seq}
-use Rattle.score_contract.specs.SessionCall.{resultAt}
-use Rattle.tono_seq.specs.Called.{Called, none, made, countsAfterCall, freeAfterCall, Places, Holds}
-use Rattle.tono_seq.specs.Raw.{Raw, sessionIn, seqWith, partsIn}
-use Rattle.tono_seq.specs.declared.raw.Parts.{Parts}
-use Rattle.tono_seq.specs.declared.raw.Parts.the-variants.{Both, Nothing}
+use Rattle.score_contract.specs.SessionCall.{resultAt, sessionAfter}
+use Rattle.session.specs.declared.session.Session.{Session}
+use Rattle.raw_call.specs.Called.{Called, none, made, freeAfterCall, Places, Holds}
+use Rattle.raw_call.specs.Raw.{Raw, sessionIn, seqWith, partsIn}
+use Rattle.raw_call.specs.declared.raw.Parts.{Parts}
+use Rattle.raw_call.specs.declared.raw.Parts.the-variants.{Both, Nothing}
 
 -- What was handed in, and what was lent and answered; `counts` are the stations' draw counts after the call, and `buffer` is the note buffer.
 pub record ScoreExport : Type 0 where
@@ -33,6 +34,11 @@ scoreCalledOn Nothing e = none
 
 abbrev pub scoreCalled : ScoreExport → Called
 scoreCalled e = scoreCalledOn (partsIn (e .raw)) e
+
+-- what the counts' places hold after a call on station k of the session a
+abbrev pub countsAfterCall : Session → ℕ → Called → List ℕ
+countsAfterCall a k none = a .draws
+countsAfterCall a k (made r) = sessionAfter a k r .draws
 
 -- The contract: all is as in the score call of that session and `Seq`. The note buffer's first n values are free after an accepted call.
 pub record ScoreExported (e : ScoreExport) : Type 0 where

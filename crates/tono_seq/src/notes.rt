@@ -1,7 +1,7 @@
 // The note call from numbers and slices.
 ghost use Rattle.tono_seq.specs.Note.{NoteExported};
-use crate::outcomes::draws_of;
-use crate::outcomes::number_of;
+use raw_call::draws_of;
+use raw_call::number_of;
 use raw_knobs::VoiceAt;
 use raw_knobs::voice_at;
 use rng::Rng;

@@ -1,12 +1,12 @@
 // The score call from numbers and slices.
 ghost use Rattle.tono_seq.specs.Score.{ScoreExported};
-use crate::outcomes::draws_of;
-use crate::outcomes::number_of;
-use crate::raw::Parts;
-use crate::raw::parts_at;
-use crate::raw::seq_of;
-use crate::sessions::put_count;
-use crate::sessions::session_of;
+use raw_call::Parts;
+use raw_call::draws_of;
+use raw_call::number_of;
+use raw_call::parts_at;
+use raw_call::put_count;
+use raw_call::seq_of;
+use raw_call::session_of;
 
 // 0 where the call is accepted, else the refusal's number. `seeds` and `counts` are the session's, eight of each; the
 // count of the station that is named changes with an accepted call, and nothing else of them.

@@ -2,14 +2,10 @@
 use Prim.Native.Nat.{ℕ, _≤_}
 use mathlib.Core.Path.{_≡_, refl, sym, ap, _∙_}
 use mathlib.Core.List.{List}
-use borrow.Author.Needs.{needs}
-use mir.Val.{SFits, toZ}
-use mir.Syntax.{w64}
 use lib.ListN.{length}
-use lib.IntN.{ℤ, pos, negℤ, _-ℤ_}
+use lib.IntN.{ℤ, pos, negℤ}
 use Rattle.wave_file.specs.Refusal.{FileResult, refused, accepted, partOf, numberOf}
 use Rattle.wave_file.specs.declared.refusal.FileRefusal.{FileRefusal}
-use Rattle.wave_file.specs.declared.refusal.FileRefusal.the-variants.{Rate, Frames, Room, Format, Structure}
 use Rattle.wave_write.specs.Write.{writeResult, writtenIn, Wrote}
 use Rattle.wave_write.specs.declared.write.Written.{Written}
 use Rattle.wave_write.specs.declared.write.Written.the-variants.{Bytes}
@@ -21,21 +17,6 @@ use Rattle.wave_read.specs.declared.read.WaveRead.{WaveRead}
 use Rattle.wave_read.specs.declared.read.WaveRead.the-variants.{Samples}
 use Rattle.wave_read.specs.declared.read.WaveRead.the-variants as read-answers
 use Rattle.tono_wave.specs.Wave.{returned, rateAfter, WriteReturned, ReadReturned}
-
--- minus a refusal's number fits, and is no wrapped one
-pub minus-fits : (r : FileRefusal) → SFits w64 (pos 0 -ℤ toZ w64 (numberOf r))
-minus-fits Rate = search needs
-minus-fits Frames = search needs
-minus-fits Room = search needs
-minus-fits Format = search needs
-minus-fits Structure = search needs
-
-pub minus-is : (r : FileRefusal) → pos 0 -ℤ toZ w64 (numberOf r) ≡ negℤ (pos (numberOf r))
-minus-is Rate = refl
-minus-is Frames = refl
-minus-is Room = refl
-minus-is Format = refl
-minus-is Structure = refl
 
 -- what an answer says of a part of the result, the number says of the result
 module _ {A B : Type 0} (part : A → B) (size : B → ℕ) where
@@ -58,8 +39,8 @@ module _ {rate : ℕ} {samples file₀ file : List ℕ} {said : Written} (w : Wr
   pub write-length : (n : ℕ) → said ≡ Bytes n → {z : ℤ} → z ≡ pos n → WriteReturned rate samples file₀ z file
   write-length n e i = record { answer = i ∙ accepted-returned length (λ n. n) written n (ap writtenIn (sym e) ∙ w .answer); bytes = w .bytes }
 
-  pub write-refused : (r : FileRefusal) → said ≡ write-answers.Refused r → {z : ℤ} → z ≡ negℤ (pos (numberOf r)) → WriteReturned rate samples file₀ z file
-  write-refused r e i = record { answer = i ∙ refused-returned length (λ n. n) written (numberOf r) (ap writtenIn (sym e) ∙ w .answer); bytes = w .bytes }
+  pub write-refused : (r : FileRefusal) → said ≡ write-answers.Refused r → {n : ℕ} → n ≡ numberOf r → {z : ℤ} → z ≡ negℤ (pos n) → WriteReturned rate samples file₀ z file
+  write-refused r e is i = record { answer = (rw is at i) ∙ refused-returned length (λ n. n) written (numberOf r) (ap writtenIn (sym e) ∙ w .answer); bytes = w .bytes }
 
 -- ---- reading
 rate-read : (rate₀ : ℕ) (r : FileResult Wave) (e : Extent) → accepted e ≡ partOf extentOf r → e .rate ≡ rateAfter rate₀ r
@@ -80,7 +61,7 @@ module _ {file samples₀ samples : List ℕ} {said : WaveRead} (h : Reads file 
       let x : Extent = record { rate = rate; count = count } in
       record { answer = i ∙ accepted-returned extentOf (λ x. x .count) result x q; place = rate-read rate₀ result x q; bits = h .bits }
 
-  pub read-refused : (r : FileRefusal) → said ≡ read-answers.Refused r → {z : ℤ} → z ≡ negℤ (pos (numberOf r)) → ReadReturned file rate₀ samples₀ z rate₀ samples
-  read-refused r e i =
+  pub read-refused : (r : FileRefusal) → said ≡ read-answers.Refused r → {n : ℕ} → n ≡ numberOf r → {z : ℤ} → z ≡ negℤ (pos n) → ReadReturned file rate₀ samples₀ z rate₀ samples
+  read-refused r e is i =
       let q : refused (numberOf r) ≡ partOf extentOf result = ap readIn (sym e) ∙ h .answer in
-      record { answer = i ∙ refused-returned extentOf (λ x. x .count) result (numberOf r) q; place = rate-kept rate₀ result (numberOf r) q; bits = h .bits }
+      record { answer = (rw is at i) ∙ refused-returned extentOf (λ x. x .count) result (numberOf r) q; place = rate-kept rate₀ result (numberOf r) q; bits = h .bits }

@@ -1,19 +1,8 @@
 // The calls on WAVE files as C has them: a number that is a length, a count or minus a refusal's number.
 // `tono` exports them.
-ghost use mathlib.Core.Path.{_≡_};
-ghost use lib.IntN.{pos, negℤ};
-ghost use Rattle.wave_file.specs.Refusal.{numberOf};
 ghost use Rattle.tono_wave.specs.Wave.{WriteReturned, ReadReturned};
-use wave_file::FileRefusal;
 use wave_read::WaveRead;
 use wave_write::Written;
-
-// Minus a refusal's number.
-fn refused(refusal: FileRefusal) -> i64
-    ensures { λ r. ⌜ r ≡ negℤ (pos (numberOf refusal)) ⌝ }
-{
-    -(refusal.number() as i64)
-}
 
 // Writes the WAVE file of `samples` at the start of `file`, and returns its length in bytes; the bytes
 // after it stay. A refused call returns minus the refusal's number, and changes nothing.
@@ -21,8 +10,8 @@ pub fn write(rate: u32, samples: &[u32], file: &mut [u8]) -> i64
     ensures { λ r. ⌜ WriteReturned rate (now (samples .entry)) (now (file .entry)) r (now (file .exit)) ⌝ }
 {
     match wave_write::write_wave(rate, samples, file) {
-        Written::Bytes(length) => length as i64,
-        Written::Refused(refusal) => refused(refusal),
+        Written::Bytes(length) => returned::length_as_i64(length),
+        Written::Refused(refusal) => returned::minus_number(refusal.number()),
     }
 }
 
@@ -35,8 +24,8 @@ pub fn read(file: &[u8], rate: &mut u32, samples: &mut [u32]) -> i64
     match wave_read::read_wave(file, samples) {
         WaveRead::Samples { rate: found, count } => {
             *rate = found;
-            count as i64
+            returned::length_as_i64(count)
         }
-        WaveRead::Refused(refusal) => refused(refusal),
+        WaveRead::Refused(refusal) => returned::minus_number(refusal.number()),
     }
 }

@@ -69,7 +69,7 @@ module _ (fi gain srf lpA : Float) (i : ℕ) (s : FluteState) where
 
 -- ---- a block
 -- The loop that advances a state and keeps two values of it after each frame: k of n frames are done. `next j` is what frame j makes of the state.
-pub record Kept {S Y : Type 0} (next : ℕ → S → S) (start : S) (f g : S → Y) (d : Y) (m l n k : ℕ) (x y : List Y) (s : S) : Type 0 where
+pub record PairTabled {S Y : Type 0} (next : ℕ → S → S) (start : S) (f g : S → Y) (d : Y) (m l n k : ℕ) (x y : List Y) (s : S) : Type 0 where
   pub within : k ≤ n
   pub long : length x ≡ m
   pub short : length y ≡ l
@@ -78,20 +78,20 @@ pub record Kept {S Y : Type 0} (next : ℕ → S → S) (start : S) (f g : S →
   pub is : s ≡ iterate next start k
 
 module _ {S Y : Type 0} {next : ℕ → S → S} {start : S} {f g : S → Y} {d : Y} {m l n : ℕ} where
-  pub kept-none : {x y : List Y} → length x ≡ m → length y ≡ l → Kept next start f g d m l n 0 x y start
+  pub pair-none : {x y : List Y} → length x ≡ m → length y ≡ l → PairTabled next start f g d m l n 0 x y start
   unfolding iterate
-  kept-none a b = record { within = omega arith; long = a; short = b; first = tabled-none; second = tabled-none; is = refl }
+  pair-none a b = record { within = omega arith; long = a; short = b; first = tabled-none; second = tabled-none; is = refl }
 
-  pub kept-more :
+  pub pair-more :
       {k : ℕ} {x y : List Y} {s s′ : S} →
-      Kept next start f g d m l n k x y s →
+      PairTabled next start f g d m l n k x y s →
       k < n →
       n ≤ m →
       n ≤ l →
       s′ ≡ next k s →
-      Kept next start f g d m l n (k + 1) (set x k (f s′)) (set y k (g s′)) s′
+      PairTabled next start f g d m l n (k + 1) (set x k (f s′)) (set y k (g s′)) s′
   unfolding iterate
-  kept-more {k} {x} {y} {s} {s′} h lt a b e = record {
+  pair-more {k} {x} {y} {s} {s′} h lt a b e = record {
     within = omega arith;
     long = rw length-set (h .long);
     short = rw length-set (h .short);
@@ -106,14 +106,14 @@ module _ {S Y : Type 0} {next : ℕ → S → S} {start : S} {f g : S → Y} {d 
       moved : s′ ≡ iterate next start (k + 1)
       moved = rw add-one (e ∙ ap (next k) (h .is))
 
-  pub kept-first : {k : ℕ} {x y : List Y} {s : S} → Kept next start f g d m l n k x y s → n ≤ k → Tabled (λ j. f (iterate next start (j + 1))) d 0 n x
-  kept-first h le = tabled-all (h .first) (omega (arith, h .within))
+  pub pair-first : {k : ℕ} {x y : List Y} {s : S} → PairTabled next start f g d m l n k x y s → n ≤ k → Tabled (λ j. f (iterate next start (j + 1))) d 0 n x
+  pair-first h le = tabled-all (h .first) (omega (arith, h .within))
 
-  pub kept-second : {k : ℕ} {x y : List Y} {s : S} → Kept next start f g d m l n k x y s → n ≤ k → Tabled (λ j. g (iterate next start (j + 1))) d 0 n y
-  kept-second h le = tabled-all (h .second) (omega (arith, h .within))
+  pub pair-second : {k : ℕ} {x y : List Y} {s : S} → PairTabled next start f g d m l n k x y s → n ≤ k → Tabled (λ j. g (iterate next start (j + 1))) d 0 n y
+  pair-second h le = tabled-all (h .second) (omega (arith, h .within))
 
-  pub kept-state : {k : ℕ} {x y : List Y} {s : S} → Kept next start f g d m l n k x y s → n ≤ k → s ≡ iterate next start n
-  kept-state {k} h le = let e : k ≡ n = omega (arith, h .within) in h .is ∙ ap (iterate next start) e
+  pub pair-state : {k : ℕ} {x y : List Y} {s : S} → PairTabled next start f g d m l n k x y s → n ≤ k → s ≡ iterate next start n
+  pair-state {k} h le = let e : k ≡ n = omega (arith, h .within) in h .is ∙ ap (iterate next start) e
 
 module _ (f : ℕ → Float) (gain srf lpA : Float) (from : ℕ) (start : FluteState) where
   abbrev at : ℕ → FluteState

@@ -42,7 +42,7 @@ fn store_sixth(y: &mut [f32; 384], k: usize, phase: f32)
 }
 
 // The phase after a frame of the pitch fi.
-fn organ_next(fi: f32, srf: f32, phase: f32) -> f32
+pub(crate) fn organ_next(fi: f32, srf: f32, phase: f32) -> f32
     ensures { λ r. ⌜ r ≡ organNext fi srf phase ⌝ }
 {
     osc::wrap(phase + float::max_f32(fi, 0.0) / 2.0 / srf)

@@ -14,6 +14,7 @@ ghost use Rattle.dsl.specs.Drawbars.{c6};
 ghost use Rattle.dsl.specs.Pitch.{pitchAt, reaches};
 ghost use Rattle.voice_organ.specs.Organ.{organNorm, organAt, organFrames};
 use crate::block::organ_blocks;
+use crate::block::organ_next;
 use dsl::Drawbars;
 use dsl::Reading;
 
@@ -57,7 +58,7 @@ fn organ_at(bars: Drawbars, norm: f32, fi: f32, srf: f32, i: usize, phase: f32) 
         + 0.5 * dsp::exp(-t / 0.2) * sixth;
     OrganOut {
         sample: s * norm,
-        state: osc::wrap(phase + float::max_f32(fi, 0.0) / 2.0 / srf),
+        state: organ_next(fi, srf, phase),
     }
 }
 

@@ -5,7 +5,7 @@ use mathlib.Core.List.{List}
 use native.Mathlib.Omega.{arith}
 use lib.ListN.{length, take, drop, length-append}
 use lib.Seq.{length-take-le}
-use Rattle.text.proofs.Refused.{refusal-long}
+use Rattle.text_judge.proofs.Refused.{refusal-long}
 use Rattle.wave_file.specs.Refusal.{FileResult, refused, accepted, partOf}
 use Rattle.wave_write.specs.Write.{fileAfter}
 use Rattle.text_wave.specs.TextFile.{textFile, saidIn, Filed}

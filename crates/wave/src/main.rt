@@ -7,14 +7,9 @@ ghost use Rattle.wave.specs.Input.{written, InputFiled};
 use libc::STDERR_FILENO;
 use libc::STDIN_FILENO;
 use libc::STDOUT_FILENO;
+use programs::input_buffer;
+use programs::print_refusal;
 use text_wave::TextWave;
-
-// A text score has at most 65,536 bytes; the one more shows that the input is longer.
-fn score_buffer() -> [u8; 65537]
-    ensures { λ r. ⌜ 65537 ≡ length r ⌝ }
-{
-    [0u8; 65537]
-}
 
 // As long as the longest file: 58 bytes, and four for each of 2,048 frames.
 fn file_buffer() -> [u8; 8250]
@@ -34,12 +29,6 @@ fn file_input(score: &mut [u8], file: &mut [u8]) -> TextWave
     text_wave::wave_text(&score[..read], file)
 }
 
-fn print_refusal(number: u32) {
-    io::write_all(STDERR_FILENO, b"R\t");
-    io::print_decimal(STDERR_FILENO, number as u64);
-    io::write_all(STDERR_FILENO, b"\n");
-}
-
 fn answer(said: TextWave, file: &[u8])
     requires { ⌜ written said ≤ length (now file) ⌝ }
 {
@@ -47,12 +36,12 @@ fn answer(said: TextWave, file: &[u8])
         TextWave::Bytes(length) => {
             io::write_all(STDOUT_FILENO, &file[..length]);
         }
-        TextWave::Refused(number) => print_refusal(number),
+        TextWave::Refused(number) => print_refusal(STDERR_FILENO, number),
     }
 }
 
 fn main() {
-    let mut score = score_buffer();
+    let mut score = input_buffer();
     let mut file = file_buffer();
     let said = file_input(&mut score, &mut file);
     answer(said, &file);

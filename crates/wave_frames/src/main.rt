@@ -8,16 +8,10 @@ ghost use Rattle.text_listing.specs.Printed.{Printed};
 ghost use Rattle.wave_frames.specs.Input.{fileLines, InputShown};
 use libc::STDIN_FILENO;
 use libc::STDOUT_FILENO;
+use programs::input_buffer;
 use text_listing::put_lines;
 use text_listing::put_refusal;
 use wave_read::WaveRead;
-
-// One byte more than the longest file shows that the input is longer.
-fn file_buffer() -> [u8; 65537]
-    ensures { λ r. ⌜ 65537 ≡ length r ⌝ }
-{
-    [0u8; 65537]
-}
 
 fn samples_buffer() -> [u32; 2048]
     ensures { λ r. ⌜ 2048 ≡ length r ⌝ }
@@ -61,7 +55,7 @@ fn show_input(file: &mut [u8], samples: &mut [u32], page: &mut [u8]) -> usize
 }
 
 fn main() {
-    let mut file = file_buffer();
+    let mut file = input_buffer();
     let mut samples = samples_buffer();
     let mut page = page_buffer();
     let written = show_input(&mut file, &mut samples, &mut page);

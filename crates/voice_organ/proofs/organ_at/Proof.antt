@@ -12,19 +12,18 @@ fourth-sine-requires c κs = c .sin .ensures
 
 returns : tie.Need-returns
 returns c =
-    let b8 = c .before .before .before .before .before .before .before .before in
-    let b16 = b8 .before .before .before .before .before .before .before .before in
+    let b7 = c .before .before .before .before .before .before .before in
+    let b15 = b7 .before .before .before .before .before .before .before .before in
     organ-frame _ _ _ _ _ _
-    (b16 .before .before .frame-time .ensures)
-    (b16 .before .sin .ensures)
-    (b8 .before .before .before .before .before .before .sin2 .ensures)
-    (b8 .before .before .before .sin3 .ensures)
-    (b8 .sin4 .ensures)
-    (b16 .fourth-sine .ensures)
-    (c .before .before .before .before .sin5 .ensures)
-    (c .before .before .exp .ensures)
-    (c .before .max-f32 .ensures)
-    (c .wrap .ensures)
+    (b15 .before .before .frame-time .ensures)
+    (b15 .before .sin .ensures)
+    (b7 .before .before .before .before .before .before .sin2 .ensures)
+    (b7 .before .before .before .sin3 .ensures)
+    (b7 .sin4 .ensures)
+    (b15 .fourth-sine .ensures)
+    (c .before .before .before .sin5 .ensures)
+    (c .before .exp .ensures)
+    (c .organ-next .ensures)
 
 pub organ-at-spec : {M : Type 1} → statement M
 organ-at-spec =
@@ -33,7 +32,6 @@ organ-at-spec =
     frame-time-requires
     (λ c κs. tt)
     fourth-sine-requires
-    (λ c κs. tt)
     (λ c κs. tt)
     (λ c κs. tt)
     (λ c κs. tt)

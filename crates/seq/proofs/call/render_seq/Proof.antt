@@ -1,9 +1,8 @@
 -- `seq::call::render_seq` meets its contract. Assumes nothing.
-use mathlib.Core.Path.{_≡_, refl}
-use Prim.Native.Nat.{_<_}
-use native.Mathlib.Omega.{arith}
+use mathlib.Core.Path.{_≡_, refl, sym, _∙_}
 use lib.ListN.{length, length-map}
 use Rattle.session.specs.Opened.{Eight}
+use Rattle.session.proofs.Naming.{named-one}
 use Rattle.score_contract.proofs.Stations.{none-named, put-back}
 use borrow.Author.Needs.{needs}
 use Rattle.seq.proofs.call.render_seq.Statement.{statement}
@@ -16,29 +15,35 @@ eight c =
     record { seeds = seeds; counts = counts }
 
 returns : tie.Need-returns
-returns c = none-named _ (eight (c .before .before .before .before .before .before .before)) _ (c .before .if1 .taken) _ (c .new .ensures) refl refl refl refl
+returns c =
+    let at = c .before .before .before .before .before .before .before .before .before in
+    none-named _ (eight at) _ (sym (c .before .before .before .named .ensures) ∙ c .before .enum-told .given .1) (c .no-station .ensures) refl refl refl
+
+answered-requires : tie.Need-answered-requires
+answered-requires c κs =
+    let b11 = c .before .before .before .before .before .before .before .before .before .before .before in
+    let b13 = c .before .before .before .before .before .before .before .before .before .before .before .before .before in
+    named-one _ _ (sym (b13 .named .ensures) ∙ b11 .one .given .1) .0
 
 returns-2 : tie.Need-returns-2
 returns-2 c =
-    let b9 = c .before .before .before .before .before .before .before .before .before in
-    let b13 = c .before .before .before .before .before .before .before .before .before .before .before .before .before in
+    let b7 = c .before .before .before .before .before .before .before in
+    let b12 = c .before .before .before .before .before .before .before .before .before .before .before .before in
     let b14 = c .before .before .before .before .before .before .before .before .before .before .before .before .before .before in
-    let b20 = c .before .before .before .before .before .before .before .before .before .before .before .before .before .before .before .before .before .before .before .before in
-    let one = b9 .render-station .result in
-    let at = b20 in
-    let scored = rw (b13 .station .ensures) at (b9 .render-station .ensures) in
-    let few : at .args .station < 8 = omega (arith, b14 .if1 .left) in
-    put-back _ (eight at) _ few one scored (λ j. record { session = c .with-draw .ensures j; rng = one .station .rng; outcome = one .outcome })
+    let at = c .before .before .before .before .before .before .before .before .before .before .before .before .before .before .before .before .before .before .before .before in
+    put-back _ (eight at) _ (sym (b14 .named .ensures) ∙ b12 .one .given .1) _ (b7 .render-station .ensures) (c .answered .ensures)
 
 pub render-seq-spec : {M : Type 1} → statement M
 render-seq-spec =
     tie.close
     (tie.spec
     (λ c κs. search needs)
+    (λ c. search needs)
+    (λ c. search needs)
+    (λ c κs. search needs)
     returns
     (λ c κs. search needs)
-    (λ c κs. search needs)
-    (λ c κs. search needs)
+    answered-requires
     (λ c. search needs)
     (λ c. search needs)
     (λ c. search needs)

@@ -1,7 +1,7 @@
 -- `sin_block::block::covered` meets its contract. Assumes nothing.
 use mathlib.Core.Bool.{false≢true}
 use borrow.Author.Tests.{eqb-true}
-use Rattle.sin_block.proofs.Composed.{composed}
+use Rattle.sin_block.proofs.Composed.{sine-composed}
 use borrow.Author.Needs.{needs}
 use Rattle.sin_block.proofs.block.covered.Statement.{statement}
 use Rattle.sin_block.proofs.block.covered.Tie as tie
@@ -25,7 +25,7 @@ returns-3 c =
     let quarters = b8 .quarters .ensures in (
       (turns .0, quarters .0, b3 .sines .ensures .0, c .narrowed .ensures .0),
       λ e.
-          composed _ _ (b8 .quarters .last .1 .1 .0) _ _ _ (turns .1 (b8 .before .before .before .if1 .left)) (quarters .1 (b3 .before .before .before .before .if2 .left)) (b3 .sines .ensures .1)
+          sine-composed _ _ (b8 .quarters .last .1 .1 .0) _ _ _ (turns .1 (b8 .before .before .before .if1 .left)) (quarters .1 (b3 .before .before .before .before .if2 .left)) (b3 .sines .ensures .1)
           (c .narrowed .ensures .1 (eqb-true _ _ e)),
     )
 

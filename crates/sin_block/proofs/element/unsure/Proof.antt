@@ -15,7 +15,7 @@ none a b h = (omega arith, omega arith)
 
 returns : tie.Need-returns
 returns c =
-    let p = c .before .not-positive in
+    let p = c .before .not-below in
     let h = c .halved in (
       most (p .result) (h .result) (p .ensures .0) (h .ensures .0),
       λ e. let z = none (p .result) (h .result) e in

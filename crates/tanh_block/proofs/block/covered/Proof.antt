@@ -1,7 +1,7 @@
 -- `tanh_block::block::covered` meets its contract. Assumes nothing.
 use mathlib.Core.Bool.{false≢true}
 use borrow.Author.Tests.{eqb-true}
-use Rattle.tanh_block.proofs.Tangent.{composed}
+use Rattle.tanh_block.proofs.Tangent.{tangent-composed}
 use borrow.Author.Needs.{needs}
 use Rattle.tanh_block.proofs.block.covered.Statement.{statement}
 use Rattle.tanh_block.proofs.block.covered.Tie as tie
@@ -28,7 +28,7 @@ returns-2 c =
     let b6 = b3 .before .before .before in
     let b8 = b6 .before .before in (
       (b6 .exps .ensures .0, b3 .tangents .ensures .0, c .narrowed .ensures .0),
-      λ e. composed _ _ _ _ _ (b8 .before .outsiders .ensures (b8 .if1 .left)) (b6 .exps .ensures .1) (b3 .tangents .ensures .1) (c .narrowed .ensures .1 (eqb-true _ _ e)),
+      λ e. tangent-composed _ _ _ _ _ (b8 .before .outsiders .ensures (b8 .if1 .left)) (b6 .exps .ensures .1) (b3 .tangents .ensures .1) (c .narrowed .ensures .1 (eqb-true _ _ e)),
     )
 
 pub covered-spec : {M : Type 1} → statement M

@@ -5,7 +5,7 @@ use mathlib.Core.List.{[]}
 use native.Mathlib.Omega.{arith}
 use lib.ListN.{length, drop, length-append}
 use lib.Seq.{length-take-le, take-at}
-use Rattle.text.proofs.Replying.{fitted-as}
+use Rattle.text_reply.proofs.Fitting.{fitted-as}
 use Rattle.text.proofs.Shown.{played-by}
 use borrow.Author.Needs.{needs}
 use Rattle.text.proofs.play.play_score.Statement.{statement}

@@ -2,7 +2,7 @@
 use native.Mathlib.Omega.{arith}
 use Rattle.score.specs.Score.{Score}
 use Rattle.text_read.specs.Text.{seqOf}
-use Rattle.text.specs.Listing.{callOf}
+use Rattle.text_judge.specs.Call.{callOf}
 use borrow.Author.Needs.{needs}
 use Rattle.text_sheet.proofs.Ways.{score-short, score-room, score-printed}
 use Rattle.text_sheet.proofs.sheet.print_score.Statement.{statement}

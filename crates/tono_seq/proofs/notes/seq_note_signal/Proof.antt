@@ -1,6 +1,6 @@
 -- `tono_seq::notes::seq_note_signal` meets its contract. Assumes nothing.
 use mathlib.Core.Path.{refl, sym, _∙_}
-use Rattle.tono_seq.proofs.Ends.{none-holds}
+use Rattle.raw_call.proofs.Ends.{none-holds}
 use Rattle.tono_seq.proofs.NoteEnds.{not-called, call-holds}
 use borrow.Author.Needs.{needs}
 use Rattle.tono_seq.proofs.notes.seq_note_signal.Statement.{statement}

@@ -7,10 +7,10 @@ use lib.Seq.{length-take-le, take-all}
 use Rattle.dsl.specs.declared.knobs.Adsr.{Adsr}
 use Rattle.dsl.specs.declared.knobs.SeqVoice.{SeqVoice}
 use Rattle.raw_knobs.specs.Knobs.{voiceAt, envAt}
-use Rattle.tono_seq.specs.Raw.{wholeOf, partsWith}
-use Rattle.tono_seq.specs.declared.raw.Parts.the-variants.{Both}
-use Rattle.tono_seq.proofs.Whole.{call-eights}
-use Rattle.tono_seq.proofs.Ends.{none-holds}
+use Rattle.raw_call.specs.Raw.{wholeOf, partsWith}
+use Rattle.raw_call.specs.declared.raw.Parts.the-variants.{Both}
+use Rattle.raw_call.proofs.Whole.{call-eights}
+use Rattle.raw_call.proofs.Ends.{none-holds}
 use Rattle.tono_seq.proofs.ScoreEnds.{not-called, call-holds}
 use borrow.Author.Needs.{needs}
 use Rattle.tono_seq.proofs.scores.render_seq.Statement.{statement}

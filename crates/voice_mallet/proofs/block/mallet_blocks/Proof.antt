@@ -7,7 +7,6 @@ use Rattle.blocks.proofs.Carried.{Carried, carried-none, carried-then, carried-
 use Rattle.dsl.specs.Pitch.{pitchAt}
 use Rattle.dsl.proofs.Reach.{reaches-less}
 use Rattle.voice_mallet.specs.Mallet.{malletAt}
-use borrow.Author.Needs.{needs}
 use Rattle.voice_mallet.proofs.block.mallet_blocks.Statement.{statement}
 use Rattle.voice_mallet.proofs.block.mallet_blocks.Tie as tie
 

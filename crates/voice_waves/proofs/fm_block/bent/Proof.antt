@@ -1,7 +1,6 @@
 -- `voice_waves::fm_block::bent` meets its contract. Assumes nothing.
 use mathlib.Core.Path.{refl}
 use Rattle.voice_waves.specs.Bent.{fmBent}
-use borrow.Author.Needs.{needs}
 use Rattle.voice_waves.proofs.fm_block.bent.Statement.{statement}
 use Rattle.voice_waves.proofs.fm_block.bent.Tie as tie
 

@@ -7,7 +7,6 @@ use Rattle.blocks.proofs.Carried.{Carried, carried-none, carried-then, carried-
 use Rattle.dsl.specs.Pitch.{pitchAt}
 use Rattle.dsl.proofs.Reach.{reaches-less}
 use Rattle.voice_waves.specs.Fm.{fmAt}
-use borrow.Author.Needs.{needs}
 use Rattle.voice_waves.proofs.fm_block.fm_blocks.Statement.{statement}
 use Rattle.voice_waves.proofs.fm_block.fm_blocks.Tie as tie
 

@@ -1,0 +1,3 @@
+mod Eight
+pub mod Whole
+pub mod Ends

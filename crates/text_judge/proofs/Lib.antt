@@ -1,0 +1,5 @@
+pub mod Refused
+mod Judged
+pub mod Unless
+pub mod Past
+mod Judging
