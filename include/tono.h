@@ -139,7 +139,7 @@ static inline const char *tono_reason(int number)
  * The call keeps no state: a score gives the same listing every time. Threads may call it at the same time,
  * each with its own buffers. It allocates nothing, makes no system call and always returns.
  *
- * It uses up to 84,600 bytes of stack, measured on an example of every wave (compare/robust/stack.c). Give a
+ * It uses up to 87,016 bytes of stack, measured on an example of every wave (compare/robust/stack.c). Give a
  * thread that calls it 128 KiB or more beyond its own needs. */
 int64_t tono_play(const uint8_t *score, size_t score_len, uint8_t *reply, size_t reply_len);
 
@@ -239,7 +239,7 @@ double tono_exp(double x);
  * give each thread a session of its own, or let one call at a time use a session. Only plans, which write no
  * count, may share a session. They need the floating-point mode that a program starts with, as tono_exp does.
  *
- * Stack: tono_render_seq uses up to 27,656 bytes, tono_planned_draws 9,304 and tono_note 18,488, measured on
+ * Stack: tono_render_seq uses up to 30,056 bytes, tono_planned_draws 9,304 and tono_note 20,888, measured on
  * every wave and style (compare/robust/stack.c). Give a thread that calls them 64 KiB or more beyond its own
  * needs. */
 

@@ -125,3 +125,9 @@ module _ {A S O Y : Type 0} {by : A → ℕ → S → O} {sample : O → Y} {sta
     where
       same : (i n : ℕ) → i ≤ n → n ≤ i → i ≡ n
       same i n h g = omega arith
+
+-- what is filled by steps that are equal is filled by either
+pub filled-as : {S O Y : Type 0} {step other : ℕ → S → O} {sample : O → Y} {state : O → S} {s₀ : S} {l₀ : List Y} {i : ℕ} {l : List Y} {s : S}
+    → ((i : ℕ) (s : S) → step i s ≡ other i s) → Filled step sample state s₀ l₀ i l s → Filled other sample state s₀ l₀ i l s
+filled-as {S} {O} {sample = sample} {state = state} {s₀ = s₀} {l₀ = l₀} {i = i} {l = l} {s = s} e f =
+    subst (λ (by : ℕ → S → O). Filled by sample state s₀ l₀ i l s) (λ j i s. e i s j) f

@@ -1,11 +1,13 @@
-// What voices in blocks of 64 frames share: where the last whole block ends, the levels that need
-// nothing but the frames' times, and rows of a table.
+// What voices and drums in blocks of 64 frames share: where the last whole block ends, the levels that
+// need nothing but the frames' times, and rows of a table.
 mod decay; // decay.rt: exp(-t / decay) of a block
 mod part; // part.rt: the same of a block that may be shorter
 mod row; // row.rt: some values of a frame, stored in a table
 
 pub use decay::decays;
 pub use part::decays_before;
+pub use part::exps_before;
+pub use part::zeros_before;
 pub use row::store2;
 pub use row::store3;
 pub use row::store6;

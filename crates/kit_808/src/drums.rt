@@ -1,9 +1,10 @@
-// Kick, snare, rim, clap, toms and the unmapped. A frame function takes the time t of its frame and the
-// state before it.
+// Kick, snare, rim, clap, toms and the unmapped. A frame function takes the time t or the level of its
+// frame, and the state before it.
 ghost use mathlib.Core.Path.{_≡_};
 ghost use Rattle.kit_parts.specs.Parts.{drawnIf};
 ghost use Rattle.kit_808.specs.Drums.{clicks, snaps, eight08Click, eight08Kick, eight08Snare, eight08Snap, eight08Rim};
-ghost use Rattle.kit_808.specs.Drums.{burstOf, eight08Clap, eight08Tom, eight08Unmapped};
+ghost use Rattle.kit_808.specs.Drums.{burstOf, eight08Tom};
+ghost use Rattle.kit_808.specs.Levels.{eight08ClapBy, eight08NoiseBy};
 use rng::DrawF32;
 use rng::Rng;
 
@@ -117,7 +118,7 @@ pub fn rim(t: f32, s: Eight08State) -> Eight08Out
 }
 
 // A clap's three bursts, 10 milliseconds apart.
-fn burst(t: f32) -> f32
+pub fn burst(t: f32) -> f32
     ensures { λ r. ⌜ r ≡ burstOf t ⌝ }
 {
     if t < 0.030 {
@@ -127,19 +128,17 @@ fn burst(t: f32) -> f32
     0.0
 }
 
-// Noise in a band, in bursts and with a tail.
-pub fn clap(clo_a: f32, chi_a: f32, t: f32, s: Eight08State) -> Eight08Out
-    ensures { λ r. ⌜ r ≡ eight08Clap «clo_a» «chi_a» t s ⌝ }
+// Noise in a band, whose level has the bursts and a tail.
+pub fn clap(level: f32, clo_a: f32, chi_a: f32, s: Eight08State) -> Eight08Out
+    ensures { λ r. ⌜ r ≡ eight08ClapBy level «clo_a» «chi_a» s ⌝ }
 {
-    let bursts = burst(t);
-    let env = bursts + 0.55 * dsp::exp(-t / 0.12);
     let rng = s.rng;
     let w = rng.bi();
     let next = w.rng;
     let clp = s.clp + clo_a * (w.value - s.clp);
     let chp = s.chp + chi_a * (clp - s.chp);
     Eight08Out {
-        sample: (clp - chp) * env * 1.1,
+        sample: (clp - chp) * level * 1.1,
         state: Eight08State {
             hlp: s.hlp,
             clp,
@@ -171,15 +170,15 @@ pub fn tom(above: f32, srf: f32, t: f32, s: Eight08State) -> Eight08Out
     }
 }
 
-// Any other number: noise that dies fast.
-pub fn unmapped(t: f32, s: Eight08State) -> Eight08Out
-    ensures { λ r. ⌜ r ≡ eight08Unmapped t s ⌝ }
+// Any other number: noise at its level.
+pub fn noise(level: f32, s: Eight08State) -> Eight08Out
+    ensures { λ r. ⌜ r ≡ eight08NoiseBy level s ⌝ }
 {
     let rng = s.rng;
     let w = rng.bi();
     let next = w.rng;
     Eight08Out {
-        sample: w.value * dsp::exp(-t / 0.08),
+        sample: w.value * level,
         state: Eight08State {
             hlp: s.hlp,
             clp: s.clp,

@@ -1,12 +1,13 @@
 // Hats, crash and ride: noise in three bands, and the metal's partials.
 ghost use mathlib.Core.Path.{_≡_};
-ghost use Rattle.kit_acoustic.specs.Cymbals.{acousticClosedHat, acousticOpenHat, acousticCrash, acousticRide};
+ghost use Rattle.kit_acoustic.specs.Cymbals.{acousticCrash, acousticRide};
+ghost use Rattle.kit_acoustic.specs.Levels.{acousticClosedHatBy, acousticOpenHatBy};
 use crate::drums::AcousticOut;
 use crate::drums::AcousticState;
 use crate::drums::Coefficients;
 
-pub fn closed_hat(k: Coefficients, t: f32, s: AcousticState) -> AcousticOut
-    ensures { λ r. ⌜ r ≡ acousticClosedHat k t s ⌝ }
+pub fn closed_hat(level: f32, k: Coefficients, s: AcousticState) -> AcousticOut
+    ensures { λ r. ⌜ r ≡ acousticClosedHatBy level k s ⌝ }
 {
     let rng = s.rng;
     let w = rng.bi();
@@ -16,7 +17,7 @@ pub fn closed_hat(k: Coefficients, t: f32, s: AcousticState) -> AcousticOut
     let shimmer = lpa - hpa;
     let lpb = s.lpb + k.a6500 * (w.value - s.lpb);
     AcousticOut {
-        sample: (0.60 * (w.value - lpb) + 0.55 * shimmer) * dsp::exp(-t / 0.032),
+        sample: (0.60 * (w.value - lpb) + 0.55 * shimmer) * level,
         state: AcousticState {
             lpa,
             lpb,
@@ -28,8 +29,8 @@ pub fn closed_hat(k: Coefficients, t: f32, s: AcousticState) -> AcousticOut
     }
 }
 
-pub fn open_hat(k: Coefficients, t: f32, s: AcousticState) -> AcousticOut
-    ensures { λ r. ⌜ r ≡ acousticOpenHat k t s ⌝ }
+pub fn open_hat(level: f32, k: Coefficients, s: AcousticState) -> AcousticOut
+    ensures { λ r. ⌜ r ≡ acousticOpenHatBy level k s ⌝ }
 {
     let rng = s.rng;
     let w = rng.bi();
@@ -38,9 +39,8 @@ pub fn open_hat(k: Coefficients, t: f32, s: AcousticState) -> AcousticOut
     let hpa = s.hpa + k.a8000 * (lpa - s.hpa);
     let shimmer = lpa - hpa;
     let lpb = s.lpb + k.a6500 * (w.value - s.lpb);
-    let env = 0.85 * dsp::exp(-t / 0.32) + 0.15 * dsp::exp(-t / 0.08);
     AcousticOut {
-        sample: (0.55 * (w.value - lpb) + 0.60 * shimmer) * env,
+        sample: (0.55 * (w.value - lpb) + 0.60 * shimmer) * level,
         state: AcousticState {
             lpa,
             lpb,

@@ -1,7 +1,8 @@
-// Kick, snare, rim, toms, cowbell and the unmapped. A frame function takes the time t of its frame, the
-// filters' coefficients and the state before it.
+// Kick, snare, rim, toms, cowbell and the unmapped. A frame function takes the time t or the level of its
+// frame, the filters' coefficients and the state before it.
 ghost use mathlib.Core.Path.{_≡_};
-ghost use Rattle.kit_acoustic.specs.Drums.{acousticKnock, acousticKick, acousticSnare, acousticRim, acousticTom, acousticCowbell, acousticUnmapped};
+ghost use Rattle.kit_acoustic.specs.Drums.{acousticKnock, acousticKick, acousticSnare, acousticRim, acousticTom, acousticCowbell};
+ghost use Rattle.kit_acoustic.specs.Levels.{acousticUnmappedBy};
 use rng::Rng;
 
 // A one-pole filter's step, by its corner frequency in hertz.
@@ -176,16 +177,16 @@ pub fn cowbell(t: f32, s: AcousticState) -> AcousticOut
     }
 }
 
-// Any other number: noise, half of it lowpassed, that dies fast.
-pub fn unmapped(k: Coefficients, t: f32, s: AcousticState) -> AcousticOut
-    ensures { λ r. ⌜ r ≡ acousticUnmapped k t s ⌝ }
+// Any other number: noise, half of it lowpassed, at its level.
+pub fn unmapped(level: f32, k: Coefficients, s: AcousticState) -> AcousticOut
+    ensures { λ r. ⌜ r ≡ acousticUnmappedBy level k s ⌝ }
 {
     let rng = s.rng;
     let w = rng.bi();
     let next = w.rng;
     let lpa = s.lpa + k.a4000 * (w.value - s.lpa);
     AcousticOut {
-        sample: (0.5 * w.value + 0.5 * lpa) * dsp::exp(-t / 0.08),
+        sample: (0.5 * w.value + 0.5 * lpa) * level,
         state: AcousticState {
             lpa,
             lpb: s.lpb,

@@ -1,12 +1,16 @@
-// A frame by its drum, and a note: the frames in order.
+// A frame by its drum, and a note by blocks of 64 frames: the levels first, and then the frames in order.
 ghost use mathlib.Core.Path.{_≡_};
-ghost use lib.ListN.{length};
+ghost use Prim.Native.Nat.{_+_, _-_, _≤_};
+ghost use lib.ListN.{length, getD};
+ghost use lib.Ieee.{nan};
+ghost use Rattle.blocks.proofs.Block.{Ran};
 ghost use Rattle.dsl.specs.Domain.{Frames};
 ghost use Rattle.osc.specs.Phase.{seconds};
 ghost use Rattle.rng.specs.SplitMix64.{stateAfter};
 ghost use Rattle.counts.specs.Draws.{passing};
 ghost use Rattle.kit_counts.specs.KitDraws.{acousticDraws};
-ghost use Rattle.kit_acoustic.specs.Acoustic.{coefficientsOf, acousticAt, acousticFrames};
+ghost use Rattle.kit_acoustic.specs.Acoustic.{coefficientsOf, acousticFrames};
+ghost use Rattle.kit_acoustic.specs.Levels.{acousticBy};
 use crate::clap::clap;
 use crate::cymbals::closed_hat;
 use crate::cymbals::crash;
@@ -21,6 +25,7 @@ use crate::drums::rim;
 use crate::drums::snare;
 use crate::drums::tom;
 use crate::drums::unmapped;
+use crate::levels::levels;
 use drum::Drum;
 use kit_parts::one_pole_step;
 use rng::Rng;
@@ -44,24 +49,58 @@ fn coefficients(srf: f32) -> Coefficients
     }
 }
 
-fn drum_frame(drum: Drum, k: Coefficients, srf: f32, i: usize, s: AcousticState) -> AcousticOut
+// A frame at its time, or by its level where that is all that the time gives it.
+fn drum_frame(
+    drum: Drum,
+    level: f32,
+    k: Coefficients,
+    srf: f32,
+    i: usize,
+    s: AcousticState,
+) -> AcousticOut
     requires { ⌜ Frames i ⌝ }
-    ensures { λ r. ⌜ r ≡ acousticAt drum k srf i s ⌝ }
+    ensures { λ r. ⌜ r ≡ acousticBy drum level k srf i s ⌝ }
 {
     let t = osc::frame_time(i, srf);
     match drum {
         Drum::Kick => kick(k, srf, t, s),
         Drum::Snare => snare(k, t, s),
         Drum::Rim => rim(k, t, s),
-        Drum::Clap => clap(k, t, s),
-        Drum::ClosedHat => closed_hat(k, t, s),
-        Drum::OpenHat => open_hat(k, t, s),
+        Drum::Clap => clap(level, k, s),
+        Drum::ClosedHat => closed_hat(level, k, s),
+        Drum::OpenHat => open_hat(level, k, s),
         Drum::Tom(above) => tom(above, k, srf, t, s),
         Drum::Cowbell => cowbell(t, s),
         Drum::Crash => crash(k, t, s),
         Drum::Ride => ride(k, t, s),
-        Drum::Unmapped => unmapped(k, t, s),
+        Drum::Unmapped => unmapped(level, k, s),
     }
+}
+
+// The frames of a block, whose levels are a, from the state before it; hands back the state after it.
+fn drum_block(
+    drum: Drum,
+    a: &[f32; 64],
+    k: Coefficients,
+    srf: f32,
+    from: usize,
+    end: usize,
+    start: AcousticState,
+    out: &mut [f32],
+) -> AcousticState
+    requires { ⌜ (from ≤ end) × (end ≤ from + 64) × (end ≤ 16777216) × (end ≤ length (now out)) ⌝ }
+    ensures { λ r. ⌜ Ran (λ x i. acousticBy drum x k srf i) (λ o. o .sample) (λ o. o .state)
+        (λ i. getD (now (a .entry)) (i - from) nan) from end (now (out .entry)) start end (now (out .exit)) r ⌝ }
+{
+    let mut s = start;
+    let mut i = from;
+    while i < end {
+        let r = drum_frame(drum, a[i - from], k, srf, i, s);
+        out[i] = r.sample;
+        s = r.state;
+        i += 1;
+    }
+    s
 }
 
 // Hands back the generator after a draw for each frame that draws.
@@ -79,12 +118,13 @@ pub fn kit_drum_acoustic(drum: Drum, srf: f32, rng: Rng, out: &mut [f32]) -> Rng
         phase2: 0.0,
         rng,
     };
+    let mut a = [0.0f32; 64];
     let mut i = 0usize;
     while i < out.len() {
-        let r = drum_frame(drum, k, srf, i, s);
-        out[i] = r.sample;
-        s = r.state;
-        i += 1;
+        let end = frame_block::block_end(i, out.len());
+        levels(drum, srf, i, end, &mut a);
+        s = drum_block(drum, &a, k, srf, i, end, s, out);
+        i = end;
     }
     s.rng
 }

@@ -3,6 +3,7 @@
 mod cymbals; // cymbals.rt: hats, crash and ride
 mod drums; // drums.rt: kick, snare, rim, toms, cowbell and the unmapped
 mod clap; // clap.rt: the clap's bursts
+mod levels; // levels.rt: the levels of what is noise and no more
 mod frames; // frames.rt: a frame by drum, and a note
 
 pub use frames::kit_drum_acoustic;

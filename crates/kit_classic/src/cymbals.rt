@@ -1,12 +1,13 @@
 // The drums over highpassed noise: each draw less what a one-pole lowpass makes of it.
 ghost use mathlib.Core.Path.{_≡_};
-ghost use Rattle.kit_classic.specs.Cymbals.{classicHiss, classicRide};
+ghost use Rattle.kit_classic.specs.Cymbals.{classicRide};
+ghost use Rattle.kit_classic.specs.Levels.{classicHissBy};
 use crate::drums::ClassicOut;
 use crate::drums::ClassicState;
 
-// Hats and crash: the noise dies with the time constant `decay`.
-pub fn hiss(decay: f32, hp_a: f32, t: f32, s: ClassicState) -> ClassicOut
-    ensures { λ r. ⌜ r ≡ classicHiss decay «hp_a» t s ⌝ }
+// Hats and crash: the noise at its level.
+pub fn hiss(level: f32, hp_a: f32, s: ClassicState) -> ClassicOut
+    ensures { λ r. ⌜ r ≡ classicHissBy level «hp_a» s ⌝ }
 {
     let rng = s.rng;
     let w = rng.bi();
@@ -14,7 +15,7 @@ pub fn hiss(decay: f32, hp_a: f32, t: f32, s: ClassicState) -> ClassicOut
     let past = s.lp;
     let lp = past + hp_a * (w.value - past);
     ClassicOut {
-        sample: (w.value - lp) * dsp::exp(-t / decay),
+        sample: (w.value - lp) * level,
         state: ClassicState {
             lp,
             phase: s.phase,

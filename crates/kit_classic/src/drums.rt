@@ -1,7 +1,8 @@
-// The drums without a filter. A frame function takes the time t of its frame and the state before it.
+// The drums without a filter. A frame function takes the time t or the level of its frame, and the state before it.
 ghost use mathlib.Core.Path.{_≡_};
 ghost use Rattle.kit_parts.specs.Parts.{drawnIf};
-ghost use Rattle.kit_classic.specs.Drums.{clicks, classicClick, classicKick, classicSnare, classicRim, classicClap, classicTom, classicCowbell, classicUnmapped};
+ghost use Rattle.kit_classic.specs.Drums.{clicks, classicClick, classicKick, classicSnare, classicRim, classicTom, classicCowbell};
+ghost use Rattle.kit_classic.specs.Levels.{classicNoiseBy};
 use rng::DrawF32;
 use rng::Rng;
 
@@ -86,14 +87,15 @@ pub fn rim(t: f32, s: ClassicState) -> ClassicOut
     }
 }
 
-pub fn clap(t: f32, s: ClassicState) -> ClassicOut
-    ensures { λ r. ⌜ r ≡ classicClap t s ⌝ }
+// Clap and the unmapped: noise at its level.
+pub fn noise(level: f32, s: ClassicState) -> ClassicOut
+    ensures { λ r. ⌜ r ≡ classicNoiseBy level s ⌝ }
 {
     let rng = s.rng;
     let w = rng.bi();
     let next = w.rng;
     ClassicOut {
-        sample: w.value * dsp::exp(-t / 0.09),
+        sample: w.value * level,
         state: ClassicState {
             lp: s.lp,
             phase: s.phase,
@@ -130,22 +132,5 @@ pub fn cowbell(t: f32, s: ClassicState) -> ClassicOut
     ClassicOut {
         sample: voice_cowbell::cowbell_sample(540.0, t),
         state: s,
-    }
-}
-
-// Any other number: noise that dies fast.
-pub fn unmapped(t: f32, s: ClassicState) -> ClassicOut
-    ensures { λ r. ⌜ r ≡ classicUnmapped t s ⌝ }
-{
-    let rng = s.rng;
-    let w = rng.bi();
-    let next = w.rng;
-    ClassicOut {
-        sample: w.value * dsp::exp(-t / 0.08),
-        state: ClassicState {
-            lp: s.lp,
-            phase: s.phase,
-            rng: next,
-        },
     }
 }

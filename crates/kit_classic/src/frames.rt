@@ -1,44 +1,75 @@
-// A frame by its drum, and a note: the frames in order.
+// A frame by its drum, and a note by blocks of 64 frames: the levels first, and then the frames in order.
 ghost use mathlib.Core.Path.{_≡_};
-ghost use lib.ListN.{length};
+ghost use Prim.Native.Nat.{_+_, _-_, _≤_};
+ghost use lib.ListN.{length, getD};
+ghost use lib.Ieee.{nan};
+ghost use Rattle.blocks.proofs.Block.{Ran};
 ghost use Rattle.dsl.specs.Domain.{Frames};
 ghost use Rattle.osc.specs.Phase.{seconds};
 ghost use Rattle.rng.specs.SplitMix64.{stateAfter};
 ghost use Rattle.counts.specs.Draws.{passing};
 ghost use Rattle.kit_counts.specs.KitDraws.{classicDraws};
-ghost use Rattle.kit_classic.specs.Classic.{classicAt, classicFrames};
+ghost use Rattle.kit_classic.specs.Classic.{classicFrames};
+ghost use Rattle.kit_classic.specs.Levels.{classicBy};
 use crate::cymbals::hiss;
 use crate::cymbals::ride;
 use crate::drums::ClassicOut;
 use crate::drums::ClassicState;
-use crate::drums::clap;
 use crate::drums::cowbell;
 use crate::drums::kick;
+use crate::drums::noise;
 use crate::drums::rim;
 use crate::drums::snare;
 use crate::drums::tom;
-use crate::drums::unmapped;
+use crate::levels::levels;
 use drum::Drum;
 use rng::Rng;
 
-fn drum_frame(drum: Drum, srf: f32, hp_a: f32, i: usize, s: ClassicState) -> ClassicOut
+// A frame at its time, or by its level where that is all that the time gives it.
+fn drum_frame(drum: Drum, level: f32, srf: f32, hp_a: f32, i: usize, s: ClassicState) -> ClassicOut
     requires { ⌜ Frames i ⌝ }
-    ensures { λ r. ⌜ r ≡ classicAt drum srf «hp_a» i s ⌝ }
+    ensures { λ r. ⌜ r ≡ classicBy drum level srf «hp_a» i s ⌝ }
 {
     let t = osc::frame_time(i, srf);
     match drum {
         Drum::Kick => kick(srf, t, s),
         Drum::Snare => snare(t, s),
         Drum::Rim => rim(t, s),
-        Drum::Clap => clap(t, s),
-        Drum::ClosedHat => hiss(0.035, hp_a, t, s),
-        Drum::OpenHat => hiss(0.22, hp_a, t, s),
+        Drum::Clap => noise(level, s),
+        Drum::ClosedHat => hiss(level, hp_a, s),
+        Drum::OpenHat => hiss(level, hp_a, s),
         Drum::Tom(above) => tom(above, srf, t, s),
         Drum::Cowbell => cowbell(t, s),
-        Drum::Crash => hiss(0.7, hp_a, t, s),
+        Drum::Crash => hiss(level, hp_a, s),
         Drum::Ride => ride(hp_a, t, s),
-        Drum::Unmapped => unmapped(t, s),
+        Drum::Unmapped => noise(level, s),
     }
+}
+
+// The frames of a block, whose levels are a, from the state before it; hands back the state after it.
+fn drum_block(
+    drum: Drum,
+    a: &[f32; 64],
+    srf: f32,
+    hp_a: f32,
+    from: usize,
+    end: usize,
+    start: ClassicState,
+    out: &mut [f32],
+) -> ClassicState
+    requires { ⌜ (from ≤ end) × (end ≤ from + 64) × (end ≤ 16777216) × (end ≤ length (now out)) ⌝ }
+    ensures { λ r. ⌜ Ran (λ x i. classicBy drum x srf «hp_a» i) (λ o. o .sample) (λ o. o .state)
+        (λ i. getD (now (a .entry)) (i - from) nan) from end (now (out .entry)) start end (now (out .exit)) r ⌝ }
+{
+    let mut s = start;
+    let mut i = from;
+    while i < end {
+        let r = drum_frame(drum, a[i - from], srf, hp_a, i, s);
+        out[i] = r.sample;
+        s = r.state;
+        i += 1;
+    }
+    s
 }
 
 // Hands back the generator after a draw for each frame that draws.
@@ -53,12 +84,13 @@ pub fn kit_drum_classic(drum: Drum, srf: f32, rng: Rng, out: &mut [f32]) -> Rng
         phase: 0.0,
         rng,
     };
+    let mut a = [0.0f32; 64];
     let mut i = 0usize;
     while i < out.len() {
-        let r = drum_frame(drum, srf, hp_a, i, s);
-        out[i] = r.sample;
-        s = r.state;
-        i += 1;
+        let end = frame_block::block_end(i, out.len());
+        levels(drum, srf, i, end, &mut a);
+        s = drum_block(drum, &a, srf, hp_a, i, end, s, out);
+        i = end;
     }
     s.rng
 }

@@ -1,19 +1,20 @@
 // The drums over noise above 9,000 hertz: each draw less what a one-pole lowpass makes of it.
 ghost use mathlib.Core.Path.{_≡_};
-ghost use Rattle.kit_electronic.specs.Cymbals.{electronicHiss, electronicOpenHat, electronicCrash, electronicRide};
+ghost use Rattle.kit_electronic.specs.Cymbals.{electronicOpenHat, electronicCrash, electronicRide};
+ghost use Rattle.kit_electronic.specs.Levels.{electronicHissBy};
 use crate::drums::ElectronicOut;
 use crate::drums::ElectronicState;
 
-// Closed hat and the unmapped: the noise at a level, with a time constant.
-pub fn hiss(level: f32, decay: f32, a9000: f32, t: f32, s: ElectronicState) -> ElectronicOut
-    ensures { λ r. ⌜ r ≡ electronicHiss level decay a9000 t s ⌝ }
+// Closed hat and the unmapped: the noise at its level.
+pub fn hiss(gain: f32, level: f32, a9000: f32, s: ElectronicState) -> ElectronicOut
+    ensures { λ r. ⌜ r ≡ electronicHissBy gain level a9000 s ⌝ }
 {
     let rng = s.rng;
     let w = rng.bi();
     let next = w.rng;
     let lp2 = s.lp2 + a9000 * (w.value - s.lp2);
     ElectronicOut {
-        sample: (w.value - lp2) * level * dsp::exp(-t / decay),
+        sample: (w.value - lp2) * gain * level,
         state: ElectronicState {
             lp: s.lp,
             lp2,

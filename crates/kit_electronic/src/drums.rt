@@ -1,9 +1,10 @@
-// Kick, snare, rim, clap, toms and cowbell. A frame function takes the time t of its frame and the
-// state before it.
+// Kick, snare, rim, clap, toms and cowbell. A frame function takes the time t or the level of its
+// frame, and the state before it.
 ghost use mathlib.Core.Path.{_≡_};
 ghost use Rattle.kit_parts.specs.Parts.{drawnIf};
 ghost use Rattle.kit_electronic.specs.Drums.{clicks, electronicClick, electronicKick, gateOf, electronicSnare, electronicRim};
-ghost use Rattle.kit_electronic.specs.Drums.{clapsOf, electronicClap, electronicTom, electronicCowbell};
+ghost use Rattle.kit_electronic.specs.Drums.{electronicTom, electronicCowbell};
+ghost use Rattle.kit_electronic.specs.Levels.{electronicClapBy};
 use rng::DrawF32;
 use rng::Rng;
 
@@ -108,26 +109,16 @@ pub fn rim(t: f32, s: ElectronicState) -> ElectronicOut
     }
 }
 
-// The envelope of a clap: a burst each 10 milliseconds for 30 of them, and then a tail.
-fn claps(t: f32) -> f32
-    ensures { λ r. ⌜ r ≡ clapsOf t ⌝ }
+// Noise at its level, half of it above 5,500 hertz.
+pub fn clap(level: f32, a5500: f32, s: ElectronicState) -> ElectronicOut
+    ensures { λ r. ⌜ r ≡ electronicClapBy level a5500 s ⌝ }
 {
-    if t < 0.03 {
-        return dsp::exp(-(remainder::rem_f32(t, 0.01) / 0.003));
-    }
-    dsp::exp(-(t - 0.03) / 0.10)
-}
-
-pub fn clap(a5500: f32, t: f32, s: ElectronicState) -> ElectronicOut
-    ensures { λ r. ⌜ r ≡ electronicClap a5500 t s ⌝ }
-{
-    let ev = claps(t);
     let rng = s.rng;
     let w = rng.bi();
     let next = w.rng;
     let lp = s.lp + a5500 * (w.value - s.lp);
     ElectronicOut {
-        sample: (0.5 * (w.value - lp) + 0.5 * w.value) * ev * 0.9,
+        sample: (0.5 * (w.value - lp) + 0.5 * w.value) * level * 0.9,
         state: ElectronicState {
             lp,
             lp2: s.lp2,

@@ -8,5 +8,5 @@ use Rattle.text_reply.specs.declared.reply.Reply.{Reply}
 use Rattle.text.specs.Reply.{Replied}
 use Rattle.tono.specs.Answered.{Answered}
 
-pub returned : {score reply₀ reply : List ℕ} {said : Reply} {z : ℤ} → Replied score reply₀ said reply → z ≡ returnOf said → Answered score reply₀ z reply
-returned h e = record { answer = e ∙ ap returnOf (h .answer); bytes = h .bytes }
+pub reply-returned : {score reply₀ reply : List ℕ} {said : Reply} {z : ℤ} → Replied score reply₀ said reply → z ≡ returnOf said → Answered score reply₀ z reply
+reply-returned h e = record { answer = e ∙ ap returnOf (h .answer); bytes = h .bytes }

@@ -16,15 +16,15 @@ use Rattle.wave_read.specs.Read.{readResult, Extent, extentOf, readIn, Reads}
 use Rattle.wave_read.specs.declared.read.WaveRead.{WaveRead}
 use Rattle.wave_read.specs.declared.read.WaveRead.the-variants.{Samples}
 use Rattle.wave_read.specs.declared.read.WaveRead.the-variants as read-answers
-use Rattle.tono_wave.specs.Wave.{returned, rateAfter, WriteReturned, ReadReturned}
+use Rattle.tono_wave.specs.Wave.{fileReturn, rateAfter, WriteReturned, ReadReturned}
 
 -- what an answer says of a part of the result, the number says of the result
 module _ {A B : Type 0} (part : A → B) (size : B → ℕ) where
-  pub accepted-returned : (r : FileResult A) (b : B) → accepted b ≡ partOf part r → pos (size b) ≡ returned (λ a. size (part a)) r
+  pub accepted-returned : (r : FileResult A) (b : B) → accepted b ≡ partOf part r → pos (size b) ≡ fileReturn (λ a. size (part a)) r
   accepted-returned (refused number) b e = cc
   accepted-returned (accepted a) b e = let s : b ≡ part a = cc in ap (λ (x : B). pos (size x)) s
 
-  pub refused-returned : (r : FileResult A) (number : ℕ) → refused number ≡ partOf part r → negℤ (pos number) ≡ returned (λ a. size (part a)) r
+  pub refused-returned : (r : FileResult A) (number : ℕ) → refused number ≡ partOf part r → negℤ (pos number) ≡ fileReturn (λ a. size (part a)) r
   refused-returned (refused k) number e = let s : number ≡ k = cc in ap (λ (x : ℕ). negℤ (pos x)) s
   refused-returned (accepted a) number e = cc
 

@@ -10,12 +10,12 @@ use Rattle.wave_read.specs.Reading.{Wave}
 use Rattle.wave_read.specs.Read.{readResult, samplesAfter}
 
 -- the number that C gets
-abbrev pub returned : {A : Type 0} → (A → ℕ) → FileResult A → ℤ
-returned size (refused number) = negℤ (pos number)
-returned size (accepted a) = pos (size a)
+abbrev pub fileReturn : {A : Type 0} → (A → ℕ) → FileResult A → ℤ
+fileReturn size (refused number) = negℤ (pos number)
+fileReturn size (accepted a) = pos (size a)
 
 pub record WriteReturned (rate : ℕ) (samples file₀ : List ℕ) (said : ℤ) (file : List ℕ) : Type 0 where
-  pub answer : said ≡ returned length (writeResult rate samples (length file₀))
+  pub answer : said ≡ fileReturn length (writeResult rate samples (length file₀))
   pub bytes : file ≡ fileAfter file₀ (writeResult rate samples (length file₀))
 
 abbrev pub countOf : Wave → ℕ
@@ -27,6 +27,6 @@ rateAfter r (refused number) = r
 rateAfter r (accepted w) = w .rate
 
 pub record ReadReturned (file : List ℕ) (rate₀ : ℕ) (samples₀ : List ℕ) (said : ℤ) (rate : ℕ) (samples : List ℕ) : Type 0 where
-  pub answer : said ≡ returned countOf (readResult file (length samples₀))
+  pub answer : said ≡ fileReturn countOf (readResult file (length samples₀))
   pub place : rate ≡ rateAfter rate₀ (readResult file (length samples₀))
   pub bits : samples ≡ samplesAfter samples₀ (readResult file (length samples₀))

@@ -7,7 +7,7 @@ use mir.Val.{SFits}
 use mir.Syntax.{w64}
 use lib.ListN.{length}
 use Rattle.text.proofs.Replying.{reply-within}
-use Rattle.tono.proofs.Returning.{returned}
+use Rattle.tono.proofs.Returning.{reply-returned}
 use borrow.Author.Needs.{needs}
 use Rattle.tono.proofs.tono_play.Statement.{statement}
 use Rattle.tono.proofs.tono_play.Tie as tie
@@ -22,7 +22,7 @@ as-i64-requires c κs = within-slice (c .before .before .before .before .before 
 returns : tie.Need-returns
 returns c =
     let s : SFits w64 (c .as-i64 .result) = search needs in
-    returned (c .before .before .before .play-text .ensures) (toZ-ofZ s ∙ c .as-i64 .ensures)
+    reply-returned (c .before .before .before .play-text .ensures) (toZ-ofZ s ∙ c .as-i64 .ensures)
 
 pub tono-play-spec : {M : Type 1} → statement M
 tono-play-spec = tie.close (tie.spec (λ c κs. search needs) as-i64-requires (λ c. search needs) returns)

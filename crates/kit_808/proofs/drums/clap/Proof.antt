@@ -1,16 +1,14 @@
--- `kit_808::drums::clap` meets its contract: each call by what it ensures. Assumes nothing.
+-- `kit_808::drums::clap` meets its contract: the draw by what it ensures. Assumes nothing.
 use Rattle.kit_parts.proofs.Generator.{at-state}
-use Rattle.kit_808.specs.Drums.{eight08Clap}
+use Rattle.kit_808.specs.Levels.{eight08ClapBy}
 use Rattle.kit_808.proofs.drums.clap.Statement.{statement}
 use Rattle.kit_808.proofs.drums.clap.Tie as tie
 
 returns : tie.Need-returns
-unfolding eight08Clap
+unfolding eight08ClapBy
 returns c =
-    let b6 = c .before .before .before .before .before .before in
-    let b8 = c .before .before .before .before .before .before .before .before in
-    let b9 = c .before .before .before .before .before .before .before .before .before in
-    rw (at-state (b6 .bi .ensures .1), b6 .bi .ensures .0, b8 .exp .ensures, b9 .burst .ensures)
+    let drawn = c .before .before .before .before .before .before .bi .ensures in
+    rw (at-state (drawn .1), drawn .0)
 
 pub clap-spec : {M : Type 1} → statement M
-clap-spec = tie.close (tie.spec (λ c κs. tt) (λ c κs. tt) (λ c κs. tt) returns)
+clap-spec = tie.close (tie.spec (λ c κs. tt) returns)
