@@ -19,7 +19,8 @@ use Rattle.kit_acoustic.specs.Drums.{acousticUnmapped}
 use Rattle.kit_acoustic.specs.Clap.{burstOf, acousticClap}
 use Rattle.kit_acoustic.specs.Cymbals.{acousticClosedHat, acousticOpenHat}
 use Rattle.kit_acoustic.specs.Acoustic.{acousticDrum, acousticAt}
-use Rattle.kit_acoustic.specs.Levels.{burstArgument, heardOf, clapMix, acousticClapLevel, openHatMix, acousticOpenHatLevel, acousticLevel, acousticClapBy, acousticClosedHatBy, acousticOpenHatBy, acousticUnmappedBy, acousticBy}
+use Rattle.kit_acoustic.specs.Levels.{burstArgument, heardOf, clapMix, acousticClapLevel, openHatMix, acousticOpenHatLevel, acousticLevel}
+use Rattle.kit_acoustic.specs.Levels.{acousticClapBy, acousticClosedHatBy, acousticOpenHatBy, acousticUnmappedBy, acousticBy}
 
 pub burst-heard : (t d : Float) → heardOf t d (expOf (burstArgument t d)) ≡ burstOf t d
 unfolding heardOf burstArgument burstOf
@@ -53,7 +54,8 @@ no-level Ride t o = refl
 no-level Unmapped t o = absurd (miss others 10 tt o)
 
 pub by-level : (drum : Drum) (k : Coefficients) (srf : Float) (i : ℕ) (s : AcousticState) → acousticBy drum (acousticLevel drum (seconds srf i)) k srf i s ≡ acousticAt drum k srf i s
-unfolding acousticBy acousticLevel acousticDrum acousticClapBy acousticClosedHatBy acousticOpenHatBy acousticUnmappedBy acousticClapLevel clapMix acousticOpenHatLevel openHatMix acousticClap acousticClosedHat acousticOpenHat acousticUnmapped
+unfolding acousticBy acousticLevel acousticDrum acousticClapBy acousticClosedHatBy acousticOpenHatBy acousticUnmappedBy
+    acousticClapLevel clapMix acousticOpenHatLevel openHatMix acousticClap acousticClosedHat acousticOpenHat acousticUnmapped
 by-level Kick k srf i s = refl
 by-level Snare k srf i s = refl
 by-level Rim k srf i s = refl

@@ -39,7 +39,8 @@ add-bad c = omega (arith, c .outside-f32 .ensures .0)
 loop-again : tie.Need-loop-again Inv-loop μ-loop
 loop-again c =
     let z = c .before .before .before .before .args .x .now in
-    (omega arith, omega (arith, c .outside-f32 .ensures .0), λ e. more (λ k. Falling (getD z k nan)) _ _ (c .before .before .before .loop .inv .2 (omega arith)) (c .outside-f32 .ensures .1 (omega arith)))
+    let one = c .outside-f32 .ensures in
+    (omega arith, omega (arith, one .0), λ e. more (λ k. Falling (getD z k nan)) _ _ (c .before .before .before .loop .inv .2 (omega arith)) (one .1 (omega arith)))
 
 returns : tie.Need-returns Inv-loop μ-loop
 returns c = λ e k h l. c .before .loop .inv .2 e k h (omega arith)

@@ -15,7 +15,8 @@ returns c =
     let b6 = c .before .before .before .before .before .before in
     let p = b6 .before .before .args in
     let by = b6 .burst-arguments .ensures .1 in
-    let exps = tabled-from (λ i. expOf (burstArgument (seconds (p .srf) i) (p .d))) (p .from) (p .end) (c .before .before .before .exps-before .ensures .1) (omega arith) (λ k h m. ap expOf (by .at k h m)) in
+    let made-of = c .before .before .before .exps-before .ensures .1 in
+    let exps = tabled-from (λ i. expOf (burstArgument (seconds (p .srf) i) (p .d))) (p .from) (p .end) made-of (omega arith) (λ k h m. ap expOf (by .at k h m)) in
     let made = c .bursts-heard .ensures in
     (made .0, record { at = λ k h m. made .1 .at k h m ∙ ap (heardOf (seconds (p .srf) k) (p .d)) (exps .at k h m) ∙ burst-heard (seconds (p .srf) k) (p .d) })
 
