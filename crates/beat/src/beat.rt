@@ -5,7 +5,7 @@ ghost use Rattle.beat.specs.Beat.{beat64, Reduced, lt_beat};
 use crate::gcd::gcd;
 
 // num / den. The numerator carries the sign.
-#[derive(Drop)]
+#[derive(Clone, Copy)]
 pub struct Beat {
     pub num: i64,
     pub den: u32,

@@ -1,1 +1,2 @@
 // Laws of loops that go by blocks of frames; no code.
+#![tactic(auto)]

@@ -1,6 +1,6 @@
 -- The ring of 64 places: how many samples wait, the oldest taken, a newest put. Assumes nothing.
 use Prim.Native.Nat.{ℕ, zero, suc, ◌+◌, ◌-◌, ◌%◌, ◌≤◌, ◌<◌}
-use mathlib.Core.Path.{◌≡◌, refl, sym, ap, ◌∙◌}
+use mathlib.Core.Path.{◌≡◌, refl, sym, ap, ◌∙◌, subst}
 use mathlib.Core.List.{List, [], ◌∷◌, ◌++◌}
 use mathlib.Core.Bool.{Bool, true, false, cond}
 use native.Mathlib.Omega.{arith}
@@ -80,7 +80,10 @@ put_at places oldest zero sample h l =
 put_at places oldest (suc n) sample h l =
     let e : oldest + suc n ≡ suc oldest + n = omega arith in
     let d : oldest % 64 ≡ (suc oldest + n) % 64 → ⊥ = λ p. omega arith in
-    rw (e, get_or-set_other places ((suc oldest + n) % 64) (oldest % 64) sample 0 d, put_at places (suc oldest) n sample (omega arith) l)
+    let after = set places ((suc oldest + n) % 64) sample in
+    subst (λ (k : ℕ). samples_from (set places (k % 64) sample) oldest (suc (suc n)) ≡ samples_from places oldest (suc n) ++ (sample ∷ [])) (sym e)
+    (ap (λ (first : ℕ). first ∷ samples_from after (suc oldest) (suc n)) (get_or-set_other places ((suc oldest + n) % 64) (oldest % 64) sample 0 d)
+    ∙ ap (λ (l : List ℕ). get_or places (oldest % 64) 0 ∷ l) (put_at places (suc oldest) n sample (omega arith) l))
 
 module _ (q : Queue) (fill : ℕ) (is : fill ≡ length (waiting q)) where
   pub taken_is : (first second : ℕ) → first ≡ (q.oldest + 0) % 64 → second ≡ (q.oldest + 1) % 64 → 0 < fill

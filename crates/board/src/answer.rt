@@ -2,7 +2,7 @@
 ghost use Rattle.std.specs.Prelude.{◌≡◌};
 ghost use Rattle.board.specs.Answer.{write_number};
 
-#[derive(Drop)]
+#[derive(Clone, Copy)]
 pub enum WriteOutcome {
     // The write was taken, whole.
     Accepted,

@@ -4,6 +4,8 @@
 //   let board = Board::new();
 //   let write = board.write(4, &[0, 0, 128, 63]); // a sample, 1.0
 //   let tick = write.board.tick();
+#![tactic(auto)]
+
 mod answer; // answer.rt: what a write answers, with its number
 mod queue; // queue.rt: the samples that wait
 mod registers; // registers.rt: the board, its writes, reads and ticks

@@ -4,7 +4,7 @@ ghost use Rattle.std.specs.Prelude.{◌≡◌, [], ◌∷◌, ◌++◌, ◌+◌,
 ghost use Rattle.board.specs.Queue.{waiting};
 
 // `pub`, since a board that other crates hold has one within; they can do nothing with it.
-#[derive(Drop)]
+#[derive(Clone, Copy)]
 pub struct Queue {
     // Samples as f32 bit patterns, so that a NaN keeps its bits.
     places: [u32; 64],
@@ -15,7 +15,7 @@ pub struct Queue {
 }
 
 // The oldest sample, and the queue without it.
-#[derive(Drop)]
+#[derive(Clone, Copy)]
 pub(crate) struct Taken {
     pub(crate) queue: Queue,
     pub(crate) sample: u32,

@@ -9,7 +9,7 @@ use crate::answer::WriteOutcome;
 use crate::queue::Queue;
 use crate::shape::{byte_for, covered, is_permitted, is_sample, sample_of};
 
-#[derive(Drop)]
+#[derive(Clone, Copy)]
 pub struct Board {
     queue: Queue,
     run: bool,
@@ -19,14 +19,14 @@ pub struct Board {
 }
 
 // The board after a write, and what the write came to.
-#[derive(Drop)]
+#[derive(Clone, Copy)]
 pub struct Write {
     pub board: Board,
     pub outcome: WriteOutcome,
 }
 
 // The board after a tick, and the sample that it played.
-#[derive(Drop)]
+#[derive(Clone, Copy)]
 pub struct Tick {
     pub board: Board,
     pub sample: u32,

@@ -5,10 +5,13 @@
 //   tick
 // with each number in hexadecimal. The line is written again with the write's number, the read's
 // byte or the tick's sample bits, and with the interrupt line after it; `new` has no answer.
+#![tactic(auto)]
+
 ghost use Rattle.std.specs.Prelude.{◌≤◌, length};
 
 use board::Board;
-use libc::STDIN_FILENO;
+use std::io;
+use std::io::{BufWriter, Write};
 
 // No line has more bytes than this; where it asks for more, these are written.
 const MOST_BYTES: usize = 16;
@@ -31,74 +34,83 @@ fn read_bytes(line: &[u8], bytes: &mut [u8]) {
 }
 
 // The answer's words after the line, and a newline.
-fn print_answer(answer: u64, interrupt: bool) {
-    vectors::print_u64(answer);
-    vectors::print_u64(bit(interrupt));
-    vectors::print_text(b"\n");
+fn print_answer<W: Write>(writer: &mut W, answer: u64, interrupt: bool) -> io::Result<()> {
+    vectors::print_u64(writer, answer)?;
+    vectors::print_u64(writer, bit(interrupt))?;
+    vectors::print_text(writer, b"\n")
 }
 
-fn write_bytes(board: Board, line: &[u8], bytes: &mut [u8]) -> Board {
+fn write_bytes<W: Write>(
+    writer: &mut W,
+    board: Board,
+    line: &[u8],
+    bytes: &mut [u8],
+) -> io::Result<Board> {
     read_bytes(line, bytes);
     let write = board.write(vectors::u32_field(line, 1), bytes);
     let after = write.board;
     let outcome = write.outcome;
-    print_answer(outcome.number() as u64, after.interrupt());
-    after
+    print_answer(writer, outcome.number() as u64, after.interrupt())?;
+    Ok(after)
 }
 
-fn replay_write(board: Board, line: &[u8]) -> Board {
+fn replay_write<W: Write>(writer: &mut W, board: Board, line: &[u8]) -> io::Result<Board> {
     let count = vectors::length_field(line, 2, MOST_BYTES);
     let mut space = [0u8; 16];
-    write_bytes(board, line, &mut space[..count])
+    write_bytes(writer, board, line, &mut space[..count])
 }
 
-fn replay_read(board: Board, line: &[u8]) -> Board {
+fn replay_read<W: Write>(writer: &mut W, board: Board, line: &[u8]) -> io::Result<Board> {
     print_answer(
+        writer,
         wide(board.read(vectors::u32_field(line, 1))),
         board.interrupt(),
-    );
-    board
+    )?;
+    Ok(board)
 }
 
-fn replay_tick(board: Board) -> Board {
+fn replay_tick<W: Write>(writer: &mut W, board: Board) -> io::Result<Board> {
     let tick = board.tick();
     let after = tick.board;
-    print_answer(tick.sample as u64, after.interrupt());
-    after
+    print_answer(writer, tick.sample as u64, after.interrupt())?;
+    Ok(after)
 }
 
 // The board after the line's operation.
-fn replay_line(board: Board, line: &[u8]) -> Board {
-    vectors::print_text(line);
+fn replay_line<W: Write>(writer: &mut W, board: Board, line: &[u8]) -> io::Result<Board> {
+    vectors::print_text(writer, line)?;
     if vectors::is_named(line, b"write") {
-        return replay_write(board, line);
+        return replay_write(writer, board, line);
     }
     if vectors::is_named(line, b"read") {
-        return replay_read(board, line);
+        return replay_read(writer, board, line);
     }
     if vectors::is_named(line, b"tick") {
-        return replay_tick(board);
+        return replay_tick(writer, board);
     }
-    vectors::print_text(b"\n");
-    Board::new()
+    vectors::print_text(writer, b"\n")?;
+    Ok(Board::new())
 }
 
-fn replay(input: &[u8]) {
+fn replay<W: Write>(writer: &mut W, input: &[u8]) -> io::Result<()> {
     let mut board = Board::new();
     let mut at = 0;
     while at < input.len() {
         let end = vectors::line_end(input, at);
         let line = &input[at..end];
-        board = replay_line(board, line);
+        board = replay_line(writer, board, line)?;
         if end == input.len() {
-            return;
+            return Ok(());
         }
         at = end + 1;
     }
+    Ok(())
 }
 
-fn main() {
+fn main(rt: HostRuntime) -> io::Result<()> {
     let mut input = vectors::input_buffer();
-    let n = io::read_full(STDIN_FILENO, &mut input);
-    replay(&input[..n]);
+    let n = vectors::read_full(&mut rt.stdin(), &mut input)?;
+    let mut writer = BufWriter::new(rt.alloc(), rt.stdout())?;
+    replay(&mut writer, &input[..n])?;
+    writer.flush()
 }

@@ -1,5 +1,7 @@
 // How far brass's filter opens, for a block of frames at a time: that needs nothing but the frames' times, so that no
 // exponential waits for the filter.
+#![tactic(auto)]
+
 ghost use Rattle.std.specs.Prelude.{◌≡◌, ◌+◌, ◌≤◌, length, get_or};
 ghost use Rattle.std.specs.Float.{nan};
 ghost use Rattle.blocks.proofs.Block.{Tabled};

@@ -7,7 +7,7 @@ use crate::put::put_spaces;
 use text_listing::{decimal_length, put_byte, put_decimal};
 
 // What a column shows: a number in decimal, or a dash.
-#[derive(Drop)]
+#[derive(Clone, Copy)]
 pub enum Cell {
     Number(u64),
     Dash,

@@ -8,7 +8,7 @@ use dsl::SeqWave;
 use text_listing::put_byte;
 
 // What the line of a note shows, column by column.
-#[derive(Drop)]
+#[derive(Clone, Copy)]
 pub struct Cue {
     pub place: u64, // in the list of notes, from 0
     pub step: u32,

@@ -1,4 +1,6 @@
 // The cue sheet of an accepted score.
+#![tactic(auto)]
+
 mod cue; // cue.rt: what a note's line shows
 mod page; // page.rt: lines, page after page
 mod sheet; // sheet.rt: the whole sheet

@@ -6,7 +6,7 @@ use native.Mathlib.Omega.{arith}
 use native.Mathlib.Nat.{zero-add}
 use lib.ListN.{length, take}
 use lib.Seq.{length-take-le}
-use Rattle.io.specs.Counts.{IsPrefixLen}
+use Rattle.programs.specs.Counts.{IsPrefixLen}
 use Rattle.text_judge.proofs.Refused.{refusal_long}
 use Rattle.text_listing.specs.Lines.{printed_r}
 use Rattle.text_listing.specs.Printed.{put, Printed}

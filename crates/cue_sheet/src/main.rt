@@ -1,12 +1,15 @@
 // Reads a text score from standard input and writes its cue sheet to standard output, or, where the score
 // is refused, the line R with the number.
+#![tactic(auto)]
+
 ghost use Rattle.std.specs.Prelude.{◌≡◌, ◌<◌, ◌≤◌, length};
-ghost use Rattle.io.specs.Counts.{IsPrefixLen};
+ghost use Rattle.programs.specs.Counts.{IsPrefixLen};
 ghost use Rattle.text_listing.specs.Printed.{Printed};
 ghost use Rattle.cue_sheet.specs.Input.{sheet_lines, InputPrinted};
 
-use libc::STDOUT_FILENO;
 use programs::{Input, input_buffer, read_input};
+use std::io;
+use std::io::Write;
 use text_listing::put_refusal;
 use text_sheet::Sheet;
 
@@ -41,10 +44,10 @@ fn print_input(score: &[u8], input: Input, page: &mut [u8]) -> usize
     put_sheet(&score[..read], page)
 }
 
-fn main() {
+fn main(rt: HostRuntime) -> io::Result<()> {
     let mut score = input_buffer();
-    let input = read_input(&mut score);
+    let input = read_input(&mut rt.stdin(), &mut score)?;
     let mut page = page_buffer();
     let written = print_input(&score, input, &mut page);
-    io::write_all(STDOUT_FILENO, &page[..written]);
+    rt.stdout().write_all(&page[..written])
 }

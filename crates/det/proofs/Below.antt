@@ -37,6 +37,8 @@ negated (fin false m e) n h v =
   where
     least : (n : ℕ) → n ≤ 1000 → min n (2 ^ 63) ≡ n
     least n h = omega arith
+negated nan n h v = elim v [ ]
+negated (inf _) n h v = elim v [ ]
 
 pub power_low : (n : ℕ) → n ≤ 1000 → of_bits binary64 ((1023 - n) * 2 ^ 52) ≡ ldexp2_of (neg_ℤ (pos n))
 unfolding ldexp2_of

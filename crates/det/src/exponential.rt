@@ -54,7 +54,7 @@ fn scaled(y: f64, k: i64) -> f64
     y * ldexp2(k)
 }
 
-// exp(x) = 2^k · exp(r), with exp(r) = 1 − (r·c/(c − 2) − r) and c = r − typeof.r².P(r²).
+// exp(x) = 2^k · exp(r), with exp(r) = 1 − (r·c/(c − 2) − r) and c = r − r²·P(r²).
 fn exp_from(x: f64, k: f64) -> f64
     requires { T (no_fraction k) }
     ensures { result ≡ exp_from x k }

@@ -5,6 +5,8 @@
 // with a definition of specs/, which has the operations of det.rs in the order written, but for the
 // exponential's scaling at k = -1023 and k = 1024 (`det_corners` says what that moves: no f32). Sine
 // and cosine are in the crate `trig`.
+#![tactic(auto)]
+
 mod exponential; // exponential.rt: powers of two, exp
 mod hyperbolic; // hyperbolic.rt: tanh
 mod logarithm; // logarithm.rt: ln

@@ -1,4 +1,6 @@
 // How many draws a note takes from its generator, known before it is voiced.
+#![tactic(auto)]
+
 ghost use Rattle.std.specs.Prelude.{◌≡◌};
 ghost use Rattle.draws.specs.Draws.{draws_of};
 

@@ -1,10 +1,12 @@
 // The drum that a General MIDI number names: the arms of render/kit.rs's `match midi`, which the four
 // styles share.
+#![tactic(auto)]
+
 ghost use Rattle.std.specs.Prelude.{◌≡◌};
 ghost use Rattle.drum.specs.Drums.{drum_at, drum_of};
 
 // A tom holds (midi - 41) as f32, from which its pitch is made.
-#[derive(Drop)]
+#[derive(Clone, Copy)]
 pub enum Drum {
     Kick,
     Snare,

@@ -1,11 +1,5 @@
 -- Five words are a note, or none. Use in place of cases on `Decoded`: `by_kind` where only a note counts, `by_words` else. Assumes nothing.
 use mathlib.Core.Path.{◌≡◌, refl}
-use mathlib.Core.List.{[], ◌∷◌}
-use mathlib.Core.Logic.{inl, inr}
-use native.Mathlib.Omega.{arith}
-use types.Run.{OneOf}
-use denote.Enum.Declared.{tag_of}
-use Rattle.dsl.specs.contracts.note.Decoded.{the_type}
 use Rattle.dsl.specs.Note.{of_note}
 use Rattle.dsl.specs.declared.note.SeqNote.{SeqNote}
 use Rattle.dsl.specs.declared.note.Untuned.{Untuned}
@@ -25,7 +19,7 @@ pub by_kind : (P : Decoded → Type 0) → ((m : SeqNote) → P (Note m)) → ((
 by_kind P note none = by_words P note (λ u. none (NoTone u) (record { other = λ o f. refl })) (none NoKind (record { other = λ o f. refl }))
 
 -- what code knows where a `let .. else` finds no note: which of the other variants it is stays open
-pub no_note_left : (e : Decoded) → OneOf (1 ∷ 2 ∷ []) (tag_of the_type e) → NoNote e
-no_note_left (Note m) t = absurd (elim t [ inl e ↦ omega arith | inr e ↦ omega arith ])
+pub no_note_left : (e : Decoded) → ((m : SeqNote) → e ≡ Note m → ⊥) → NoNote e
+no_note_left (Note m) t = absurd (t m refl)
 no_note_left (NoTone u) t = record { other = λ o f. refl }
 no_note_left NoKind t = record { other = λ o f. refl }

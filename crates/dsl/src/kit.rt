@@ -3,7 +3,7 @@ ghost use Rattle.std.specs.Prelude.{◌≡◌};
 ghost use Rattle.dsl.specs.Kit.{style_at};
 
 // In the source's order.
-#[derive(Drop)]
+#[derive(Clone, Copy)]
 pub enum KitStyle {
     Classic,
     Acoustic,
@@ -11,7 +11,7 @@ pub enum KitStyle {
     Eight08,
 }
 
-#[derive(Drop)]
+#[derive(Clone, Copy)]
 pub enum StyleAt {
     Style(KitStyle),
     NoStyle,

@@ -9,14 +9,14 @@ use crate::kit::KitStyle;
 use crate::sized::all_sized;
 use crate::wave::SeqWave;
 
-#[derive(Drop)]
+#[derive(Clone, Copy)]
 pub struct FmKnobs {
     pub fm_ratio: f32,
     pub fm_index: f32,
     pub fm_strike: f32,
 }
 
-#[derive(Drop)]
+#[derive(Clone, Copy)]
 pub struct PluckKnobs {
     pub pluck_decay: f32,
     pub pluck_body: f32,
@@ -24,7 +24,7 @@ pub struct PluckKnobs {
     pub pluck_tone: f32,
 }
 
-#[derive(Drop)]
+#[derive(Clone, Copy)]
 pub struct PianoKnobs {
     pub piano_hammer: f32,
     pub piano_strike: f32,
@@ -33,7 +33,7 @@ pub struct PianoKnobs {
     pub piano_decay: f32,
 }
 
-#[derive(Drop)]
+#[derive(Clone, Copy)]
 pub struct BassKnobs {
     pub bass_cutoff: f32,
     pub bass_env: f32,
@@ -48,7 +48,7 @@ pub struct BassKnobs {
 }
 
 // The organ's five drawbars: each a ratio to half the pitch and a level.
-#[derive(Drop)]
+#[derive(Clone, Copy)]
 pub struct Drawbars {
     pub ratio1: f32,
     pub level1: f32,
@@ -83,7 +83,7 @@ impl Drawbars {
 }
 
 // Attack, decay and release in seconds, the sustained level, and the boost of the first moment.
-#[derive(Drop)]
+#[derive(Clone, Copy)]
 pub struct Adsr {
     pub a: f32,
     pub d: f32,
@@ -94,7 +94,7 @@ pub struct Adsr {
 
 // A wave, its knobs, its drawbars and its kit's style. The knobs of the sets that the wave doesn't use are there too,
 // drawbars whether it is the organ or not, and a style whether it is the kit or not.
-#[derive(Drop)]
+#[derive(Clone, Copy)]
 pub struct SeqVoice {
     pub wave: SeqWave,
     pub fm: FmKnobs,

@@ -1,4 +1,6 @@
 // dsl/node.rs and dsl/mod.rs: what a score is written in. Everything here is taken by value.
+#![tactic(auto)]
+
 mod kit; // kit.rt: the drum kit's styles
 mod knobs; // knobs.rt: the knob sets, the drawbars and the envelope
 mod note; // note.rt: a note, and its decoding from five words

@@ -6,7 +6,7 @@ ghost use Rattle.dsl.specs.Note.{note_of, tuned_of};
 use crate::pitch::Pitch;
 use quarter_tone::QuarterTone;
 
-#[derive(Drop)]
+#[derive(Clone, Copy)]
 pub struct SeqNote {
     pub step: u32,
     pub len: u32,
@@ -15,7 +15,7 @@ pub struct SeqNote {
 }
 
 // A note by a number that has no quarter tone: all of it but the pitch.
-#[derive(Drop)]
+#[derive(Clone, Copy)]
 pub struct Untuned {
     pub step: u32,
     pub len: u32,
@@ -23,7 +23,7 @@ pub struct Untuned {
 }
 
 // What five words say: a note, one by a number that has no quarter tone, or a kind that there is not.
-#[derive(Drop)]
+#[derive(Clone, Copy)]
 pub enum Decoded {
     Note(SeqNote),
     NoTone(Untuned),

@@ -8,7 +8,7 @@ ghost use Rattle.dsl.specs.Sized.{pitch_sized};
 use crate::sized::is_sized;
 
 // A number in hertz, or a curve that starts at an offset of a lane.
-#[derive(Drop)]
+#[derive(Clone, Copy)]
 pub enum Pitch {
     Const(f32),
     Curve(usize),
@@ -57,7 +57,7 @@ impl Pitch {
 const SCALE: usize = 1099511627776;
 
 // A pitch as voices read it: a curve has a value each `hop` frames. `inverse` is `SCALE` / hop, rounded up.
-#[derive(Drop)]
+#[derive(Clone, Copy)]
 pub struct Reading {
     pub pitch: Pitch,
     pub hop: u32,

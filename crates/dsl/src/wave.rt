@@ -3,7 +3,7 @@ ghost use Rattle.std.specs.Prelude.{◌≡◌};
 ghost use Rattle.dsl.specs.Wave.{wave_at};
 
 // In the source's order, without Sampler, which is the last.
-#[derive(Drop)]
+#[derive(Clone, Copy)]
 pub enum SeqWave {
     Square,
     Triangle,
@@ -25,7 +25,7 @@ pub enum SeqWave {
     Cowbell,
 }
 
-#[derive(Drop)]
+#[derive(Clone, Copy)]
 pub enum WaveAt {
     Wave(SeqWave),
     Nothing,

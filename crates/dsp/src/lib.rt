@@ -1,5 +1,7 @@
 // dsp.rs: the kernels of `trig` and `det` at f32, under the names that the voices call, `one_pole`, and
 // the MIDI number of a pitch.
+#![tactic(auto)]
+
 ghost use Rattle.std.specs.Prelude.{◌≡◌};
 ghost use Rattle.dsp.specs.Kernels.{sin_of, cos_of, exp_of, powf_of, tanh_of, one_pole, log2_of, hz_to_midi};
 

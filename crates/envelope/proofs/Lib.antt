@@ -1,3 +1,4 @@
+pub mod ByTests
 mod Staging
 mod Rising
 mod Parting

@@ -2,25 +2,16 @@
 use Rattle.std.proofs.Common.{◌≡◌, ℕ, ◌<◌, ◌≤◌, Bool, true, false, cond, sym, refl, ap, ◌∙◌, arith}
 use lib.Ieee.{Float, lt}
 use Rattle.laws.proofs.If.{if_true, if_false}
-use Rattle.ieee.specs.Numbers.{c0, c1, f32}
-use Rattle.ieee.specs.Binary32.{◌⊕◌, ◌⊖◌, ◌⊗◌, ◌⊘◌}
+use Rattle.ieee.specs.Numbers.{f32}
+use Rattle.ieee.specs.Binary32.{◌⊕◌}
 use Rattle.osc.specs.Phase.{seconds}
 use Rattle.dsl.specs.declared.knobs.Adsr.{Adsr}
-use Rattle.envelope.specs.Envelope.{share_of, released_of, level_of, punched_of, adsr_env, release_start}
-use Rattle.envelope.specs.Stages.{stage_of, Parted, InStage, Staged}
+use Rattle.envelope.specs.Envelope.{adsr_env, release_start}
+use Rattle.envelope.proofs.ByTests.{in_attack, in_decay, in_sustain, in_release}
+use Rattle.envelope.specs.Stages.{attack_of, decay_of, release_of, stage_of, Parted, InStage, Staged}
 use Rattle.envelope.specs.declared.Stage.{Stage}
 use Rattle.envelope.specs.declared.Stage.TheVariants.{Attack, Decay, Sustain, Release}
 use Rattle.envelope.specs.declared.Stages.{Stages}
-
--- past its window punch does nothing
-unpunched : (t punch w v : Float) → lt t w ≡ false → v ≡ punched_of t punch w v
-unfolding punched_of
-unpunched t punch w v h = by (lt c0 punch) (lt c0 w)
-  where
-    by : (p q : Bool) → v ≡ cond p (cond q (cond (lt t w) (v ⊗ (c1 ⊕ punch ⊗ (c1 ⊖ t ⊘ w))) v) v) v
-    by true true = if_false _ h refl
-    by true false = refl
-    by false q = refl
 
 -- what the tests said, by the stage that they give
 abbrev chosen : Bool → Bool → Bool → Stage
@@ -51,33 +42,21 @@ told_release false false true e = (refl, refl, cc)
 told_release false false false e = (refl, refl, refl)
 
 module _ (t : Float) (env : Adsr) (rel : Float) where
-  -- the level within each stage is punched, or is not since the window is past
-  level_punched : {v : Float} → v ≡ level_of t env rel → punched_of t env.punch (env.a ⊕ env.d) v ≡ adsr_env t env rel
-  unfolding adsr_env
-  level_punched e = ap (punched_of t env.punch (env.a ⊕ env.d)) e
+  pub by_attack : Attack ≡ stage_of t env rel → attack_of t env ≡ adsr_env t env rel
+  unfolding stage_of
+  by_attack e = in_attack t env rel (told_attack (lt t env.a) (lt t (env.a ⊕ env.d)) (lt t rel) e)
 
-  level_past : {v : Float} → lt t (env.a ⊕ env.d) ≡ false → v ≡ level_of t env rel → v ≡ adsr_env t env rel
-  level_past {v} d e = unpunched t env.punch (env.a ⊕ env.d) v d ∙ level_punched e
+  pub by_decay : Decay ≡ stage_of t env rel → decay_of t env ≡ adsr_env t env rel
+  unfolding stage_of
+  by_decay e = let told = told_decay (lt t env.a) (lt t (env.a ⊕ env.d)) (lt t rel) e in in_decay t env rel told.0 told.1
 
-  pub in_attack : Attack ≡ stage_of t env rel → punched_of t env.punch (env.a ⊕ env.d) (share_of t env.a) ≡ adsr_env t env rel
-  unfolding stage_of level_of
-  in_attack e = level_punched (if_true _ (told_attack (lt t env.a) (lt t (env.a ⊕ env.d)) (lt t rel) e) refl)
+  pub by_sustain : Sustain ≡ stage_of t env rel → env.s ≡ adsr_env t env rel
+  unfolding stage_of
+  by_sustain e = let told = told_sustain (lt t env.a) (lt t (env.a ⊕ env.d)) (lt t rel) e in in_sustain t env rel told.0 told.1 told.2
 
-  pub in_decay : Decay ≡ stage_of t env rel → punched_of t env.punch (env.a ⊕ env.d) (c1 ⊖ (c1 ⊖ env.s) ⊗ share_of (t ⊖ env.a) env.d) ≡ adsr_env t env rel
-  unfolding stage_of level_of
-  in_decay e = let told = told_decay (lt t env.a) (lt t (env.a ⊕ env.d)) (lt t rel) e in level_punched (if_false _ told.0 (if_true _ told.1 refl))
-
-  pub in_sustain : Sustain ≡ stage_of t env rel → env.s ≡ adsr_env t env rel
-  unfolding stage_of level_of
-  in_sustain e =
-      let told = told_sustain (lt t env.a) (lt t (env.a ⊕ env.d)) (lt t rel) e in
-      level_past told.1 (if_false _ told.0 (if_false _ told.1 (if_true _ told.2 refl)))
-
-  pub in_release : Release ≡ stage_of t env rel → released_of t env.s env.r rel ≡ adsr_env t env rel
-  unfolding stage_of level_of
-  in_release e =
-      let told = told_release (lt t env.a) (lt t (env.a ⊕ env.d)) (lt t rel) e in
-      level_past told.1 (if_false _ told.0 (if_false _ told.1 (if_false _ told.2 refl)))
+  pub by_release : Release ≡ stage_of t env rel → release_of t env rel ≡ adsr_env t env rel
+  unfolding stage_of
+  by_release e = let told = told_release (lt t env.a) (lt t (env.a ⊕ env.d)) (lt t rel) e in in_release t env rel told.0 told.1 told.2
 
 -- a is where the attack ends, d the decay and s the sustain, among n frames
 module _ (env : Adsr) (len rate : ℕ) {n a d s : ℕ} {rel : Float}

@@ -10,16 +10,13 @@ use Rattle.dsl.specs.declared.knobs.Adsr.{Adsr}
 unfoldable pub share_of : Float → Float → Float
 share_of x stage = cond (lt c0 stage) (x ⊘ stage) c1
 
--- the sustained level s, released from `rel` on over r seconds
-unfoldable pub released_of : Float → Float → Float → Float → Float
-released_of t s r rel = cond (lt c0 r) (s ⊗ (c1 ⊖ clamp_of ((t ⊖ rel) ⊘ r) c0 c1)) c0
-
--- attack, decay, sustain and release
+-- attack, decay, sustain, and the release from `rel` on
 unfoldable pub level_of : Float → Adsr → Float → Float
 level_of t env rel =
     cond (lt t env.a) (share_of t env.a)
     (cond (lt t (env.a ⊕ env.d)) (c1 ⊖ (c1 ⊖ env.s) ⊗ share_of (t ⊖ env.a) env.d)
-    (cond (lt t rel) env.s (released_of t env.s env.r rel)))
+    (cond (lt t rel) env.s
+    (cond (lt c0 env.r) (env.s ⊗ (c1 ⊖ clamp_of ((t ⊖ rel) ⊘ env.r) c0 c1)) c0)))
 
 -- the boost of the first moment: punch > 0, a window w > 0 and t < w
 unfoldable pub punched_of : Float → Float → Float → Float → Float

@@ -1,14 +1,25 @@
--- The stages of `adsr_env`, and the frames of each.
+-- The stages of `adsr_env`, what it gives in three of them, as a loop over the frames of one stage computes it (in the sustain it is s), and the frames of each. The laws of proofs/ByTests say that these are
+-- `adsr_env`.
 use Rattle.std.specs.Prelude.{◌≡◌, ℕ, ◌<◌, ◌≤◌, Bool, true, false, cond, Float}
 use Rattle.std.specs.Float.Ieee.{lt}
-use Rattle.ieee.specs.Numbers.{f32}
-use Rattle.ieee.specs.Binary32.{◌⊕◌}
+use Rattle.ieee.specs.Numbers.{c0, c1, f32}
+use Rattle.ieee.specs.Binary32.{◌⊕◌, ◌⊖◌, ◌⊗◌, ◌⊘◌}
+use Rattle.ieee.specs.Order.{clamp_of}
 use Rattle.osc.specs.Phase.{seconds}
 use Rattle.dsl.specs.declared.knobs.Adsr.{Adsr}
-use Rattle.envelope.specs.Envelope.{release_start}
+use Rattle.envelope.specs.Envelope.{share_of, punched_of, release_start}
 use Rattle.envelope.specs.declared.Stage.{Stage}
 use Rattle.envelope.specs.declared.Stage.TheVariants.{Attack, Decay, Sustain, Release}
 use Rattle.envelope.specs.declared.Stages.{Stages}
+
+unfoldable pub attack_of : Float → Adsr → Float
+attack_of t env = punched_of t env.punch (env.a ⊕ env.d) (share_of t env.a)
+
+unfoldable pub decay_of : Float → Adsr → Float
+decay_of t env = punched_of t env.punch (env.a ⊕ env.d) (c1 ⊖ (c1 ⊖ env.s) ⊗ share_of (t ⊖ env.a) env.d)
+
+unfoldable pub release_of : Float → Adsr → Float → Float
+release_of t env rel = cond (lt c0 env.r) (env.s ⊗ (c1 ⊖ clamp_of ((t ⊖ rel) ⊘ env.r) c0 c1)) c0
 
 -- the stage at t seconds, by the tests of `adsr_env`: t < a, t < a + d, t < rel_start
 unfoldable pub stage_of : Float → Adsr → Float → Stage

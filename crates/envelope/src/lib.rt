@@ -1,17 +1,19 @@
 // A note's envelope, stage by stage: `adsr_env` of dsp.rs, and `adsr` of render/mod.rs, which hands back no
 // buffer but the frames of each stage. A stage is a run of frames, since their times rise.
+#![tactic(auto)]
+
 ghost use Rattle.std.specs.Prelude.{◌≡◌, ◌≤◌};
 ghost use Rattle.std.specs.Float.Ieee.{lt};
 ghost use Rattle.ieee.specs.Numbers.{f32};
 ghost use Rattle.osc.specs.Phase.{seconds};
 ghost use Rattle.dsl.specs.Domain.{Rate, Frames};
-ghost use Rattle.envelope.specs.Envelope.{share_of, released_of, punched_of, adsr_env, release_start};
-ghost use Rattle.envelope.specs.Stages.{stage_of, Parted, Staged};
+ghost use Rattle.envelope.specs.Envelope.{share_of, punched_of, adsr_env, release_start};
+ghost use Rattle.envelope.specs.Stages.{attack_of, decay_of, release_of, stage_of, Parted, Staged};
 
 use dsl::Adsr;
 
 // In the order of the tests of `adsr_env`.
-#[derive(Drop)]
+#[derive(Clone, Copy)]
 pub enum Stage {
     Attack,
     Decay,
@@ -20,7 +22,7 @@ pub enum Stage {
 }
 
 // When the release starts, in seconds, and the frames at which the attack, the decay and the sustain have ended.
-#[derive(Drop)]
+#[derive(Clone, Copy)]
 pub struct Stages {
     pub rel_start: f32,
     pub attack: usize,
@@ -47,12 +49,27 @@ fn punched(t: f32, punch: f32, punch_win: f32, v: f32) -> f32
     v
 }
 
-fn released(t: f32, s: f32, r: f32, rel_start: f32) -> f32
-    ensures { result ≡ released_of t s r rel_start }
+// The envelope at t seconds, within the attack.
+pub fn attack(t: f32, env: Adsr) -> f32
+    ensures { result ≡ attack_of t env }
 {
-    if r > 0.0 {
-        let p = float::clamp_f32((t - rel_start) / r, 0.0, 1.0);
-        return s * (1.0 - p);
+    punched(t, env.punch, env.a + env.d, share(t, env.a))
+}
+
+// The envelope at t seconds, within the decay.
+pub fn decay(t: f32, env: Adsr) -> f32
+    ensures { result ≡ decay_of t env }
+{
+    let v = 1.0 - (1.0 - env.s) * share(t - env.a, env.d);
+    punched(t, env.punch, env.a + env.d, v)
+}
+
+// The envelope at t seconds, within the release.
+pub fn release(t: f32, env: Adsr, rel_start: f32) -> f32
+    ensures { result ≡ release_of t env rel_start }
+{
+    if env.r > 0.0 {
+        return env.s * (1.0 - float::clamp_f32((t - rel_start) / env.r, 0.0, 1.0));
     }
     0.0
 }
@@ -63,21 +80,17 @@ pub fn adsr_env(stage: Stage, t: f32, env: Adsr, rel_start: f32) -> f32
     requires { stage ≡ stage_of t env rel_start }
     ensures { result ≡ adsr_env t env rel_start }
 {
-    let punch_win = env.a + env.d;
     match stage {
-        Stage::Attack => punched(t, env.punch, punch_win, share(t, env.a)),
-        Stage::Decay => {
-            let p = share(t - env.a, env.d);
-            punched(t, env.punch, punch_win, 1.0 - (1.0 - env.s) * p)
-        }
+        Stage::Attack => attack(t, env),
+        Stage::Decay => decay(t, env),
         Stage::Sustain => env.s,
-        Stage::Release => released(t, env.s, env.r, rel_start),
+        Stage::Release => release(t, env, rel_start),
     }
 }
 
 // Where the release of a note of `len` frames starts, in seconds: the envelope spans the whole length,
 // however much of it sounds.
-fn release_start(env: Adsr, len: usize, rate: u32) -> f32
+pub fn release_start(env: Adsr, len: usize, rate: u32) -> f32
     requires { Frames len }
     ensures { result ≡ release_start env len rate }
 {
@@ -87,7 +100,7 @@ fn release_start(env: Adsr, len: usize, rate: u32) -> f32
 
 // The end of a stage that lasts until `end` seconds, among the frames from `from` on and below n: the first
 // whose time is not below `end`, by halves.
-fn stage_end(end: f32, from: usize, n: usize, rate: u32) -> usize
+pub fn stage_end(end: f32, from: usize, n: usize, rate: u32) -> usize
     requires rate { Rate rate }
     requires frames { Frames n }
     requires from_le_n { from ≤ n }

@@ -1,5 +1,7 @@
 // e^x of an f32 as voices and drums ask for it in each frame: of a decay, whose argument lies below zero and not far from
 // it. There nothing that comes out needs a test.
+#![tactic(auto)]
+
 ghost use Rattle.std.specs.Prelude.{◌≡◌};
 ghost use Rattle.ieee.specs.Narrow.{narrow_of};
 ghost use Rattle.det.specs.Exp.{exp64};

@@ -1,6 +1,8 @@
 // IEEE 754 on f32 and f64: what Rust has as methods and casts and Rattle does not. Every function
 // has a result for every bit pattern and asks nothing of its caller. Each contract is one equation
 // with a definition, in which one NaN stands for all of them.
+#![tactic(auto)]
+
 mod cast; // cast.rt: floats to integers
 mod order; // order.rt: max, min, clamp, abs, signum and ranges of an f32
 mod order_f64; // order_f64.rt: max of an f64

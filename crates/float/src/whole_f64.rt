@@ -7,7 +7,7 @@ ghost use Rattle.float.specs.Small.{Small};
 ghost use Rattle.float.specs.Near.{near_of};
 
 // What `near_f64` gives: the rounded number, or nothing.
-#[derive(Drop)]
+#[derive(Clone, Copy)]
 pub enum Near {
     Whole(f64),
     Other,

@@ -26,7 +26,7 @@ fn decays_by(srf: f32, decay: f32, from: usize, x: &mut [f32; 64])
 }
 
 // The levels of the 64 frames from `from` on; x is lent for the arguments.
-pub(crate) fn decays(srf: f32, decay: f32, from: usize, x: &mut [f32; 64], out: &mut [f32; 64])
+pub fn decays(srf: f32, decay: f32, from: usize, x: &mut [f32; 64], out: &mut [f32; 64])
     requires from_bound { from + 64 ≤ 16777216 }
     requires x_len { (length x.old ≡ 64) × (length out.old ≡ 64) }
     ensures x_len_2 { (length x.new ≡ 64) × (length out.new ≡ 64) }

@@ -30,7 +30,7 @@ fn humanize_seed(note: SeqNote) -> u64
 }
 
 // From -1 up to but not at 1.
-#[derive(Drop)]
+#[derive(Clone, Copy)]
 pub struct HumanDraws {
     pub timing: f32,
     pub gain: f32,

@@ -1,4 +1,6 @@
 // render/seq.rs: when a note of a score starts, and how long and how loud it is.
+#![tactic(auto)]
+
 mod humanize; // humanize.rt: a note's own generator
 mod length; // length.rt: a note's length, and how much of it sounds
 mod mapped; // mapped.rt: the same under a tempo map

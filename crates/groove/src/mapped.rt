@@ -58,7 +58,7 @@ fn swing_delay_mapped(step: u32, swing: f32, step_frames: f64) -> f64
 }
 
 // What humanize makes of a note: its delay in frames, and its gain.
-#[derive(Drop)]
+#[derive(Clone, Copy)]
 struct HumanMapped {
     delay: f64,
     gain: f32,
@@ -93,7 +93,7 @@ fn frame_at(frames: f64) -> usize
 }
 
 // A note's first frame, the frame where it stops, which can come before it, and its grooved gain.
-#[derive(Drop)]
+#[derive(Clone, Copy)]
 pub struct Mapped {
     pub start: usize,
     pub end: usize,

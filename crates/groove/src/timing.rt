@@ -38,7 +38,7 @@ pub(crate) fn human_gain(gain: f32, humanize: f32, draw: f32) -> f32
 }
 
 // What humanize makes of a note: its delay in samples, and its gain.
-#[derive(Drop)]
+#[derive(Clone, Copy)]
 struct Human {
     delay: f32,
     gain: f32,
@@ -63,7 +63,7 @@ fn humanized(note: SeqNote, humanize: f32, step_dur: f32) -> Human
 }
 
 // A note's first frame and its grooved gain.
-#[derive(Drop)]
+#[derive(Clone, Copy)]
 pub struct Groove {
     pub start: usize,
     pub gain: f32,

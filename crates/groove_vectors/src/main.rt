@@ -1,42 +1,52 @@
 // Replays the groove and the draw counts on a list of cases. A line of standard input names what is
 // asked and gives its arguments; the original's answer is appended to it. A line whose arguments
 // lie outside the domain gets no answer.
+#![tactic(auto)]
+
 ghost use Rattle.std.specs.Prelude.{◌≡◌, ◌≤◌, ◌<◌, length};
 ghost use Rattle.dsl.specs.Domain.{numeric, Frames};
 ghost use Rattle.tempo.specs.Map.{points};
 
 use dsl::{Decoded, KitStyle, SeqNote, SeqWave, StyleAt, WaveAt};
-use libc::STDIN_FILENO;
+use std::io;
+use std::io::{BufWriter, Write};
 use tempo::TempoMap;
 
-fn print_place(note: SeqNote, swing: f32, humanize: f32, step_dur: f32, n: usize)
+fn print_place<W: Write>(
+    writer: &mut W,
+    note: SeqNote,
+    swing: f32,
+    humanize: f32,
+    step_dur: f32,
+    n: usize,
+) -> io::Result<()>
     requires numeric { numeric note.pitch }
     requires frames { Frames n }
 {
     let groove = groove::groove_note(note, swing, humanize, step_dur);
     let len = groove::note_len(note.len, step_dur, n);
-    vectors::print_u64(groove.start as u64);
-    vectors::print_f32(groove.gain);
-    vectors::print_u64(len as u64);
-    vectors::print_u64(groove::sounded_frames(n, groove.start, len) as u64);
+    vectors::print_u64(writer, groove.start as u64)?;
+    vectors::print_f32(writer, groove.gain)?;
+    vectors::print_u64(writer, len as u64)?;
+    vectors::print_u64(writer, groove::sounded_frames(n, groove.start, len) as u64)
 }
 
-fn print_draws(note: SeqNote)
+fn print_draws<W: Write>(writer: &mut W, note: SeqNote) -> io::Result<()>
     requires { numeric note.pitch }
 {
     let draws = groove::humanize_draws(note);
-    vectors::print_f32(draws.timing);
-    vectors::print_f32(draws.gain);
+    vectors::print_f32(writer, draws.timing)?;
+    vectors::print_f32(writer, draws.gain)
 }
 
 // groove RATE BPM STEPS-PER-BEAT SWING HUMANIZE N STEP LEN KIND PITCH GAIN: start, gain, length,
 // sounded frames, and the draws of humanize, timing first.
-fn answer_groove(line: &[u8], note: SeqNote)
+fn answer_groove<W: Write>(writer: &mut W, line: &[u8], note: SeqNote) -> io::Result<()>
     requires { numeric note.pitch }
 {
     let n = vectors::u32_field(line, 6) as usize;
     if n > 16777216 {
-        return;
+        return Ok(());
     }
     let step_dur = groove::step_dur(
         vectors::u32_field(line, 1),
@@ -44,8 +54,15 @@ fn answer_groove(line: &[u8], note: SeqNote)
         vectors::u32_field(line, 3),
     );
     let swing = vectors::f32_field(line, 4);
-    print_place(note, swing, vectors::f32_field(line, 5), step_dur, n);
-    print_draws(note);
+    print_place(
+        writer,
+        note,
+        swing,
+        vectors::f32_field(line, 5),
+        step_dur,
+        n,
+    )?;
+    print_draws(writer, note)
 }
 
 // The note of the five fields from `from` on.
@@ -61,14 +78,15 @@ fn note_of(line: &[u8], from: usize) -> Decoded
     )
 }
 
-fn replay_groove(line: &[u8]) {
+fn replay_groove<W: Write>(writer: &mut W, line: &[u8]) -> io::Result<()> {
     let Decoded::Note(note) = note_of(line, 7) else {
-        return;
+        return Ok(());
     };
     let pitch = note.pitch;
     if pitch.is_sized() {
-        answer_groove(line, note);
+        answer_groove(writer, line, note)?;
     }
+    Ok(())
 }
 
 // The words of the points, from field 12 on.
@@ -90,7 +108,12 @@ fn map_of(line: &[u8]) -> TempoMap {
 
 // mapped RATE STEPS-PER-BEAT SWING HUMANIZE N STEP LEN KIND PITCH GAIN, then how many words of tempo points
 // there are, and these: start, end, gain, length, sounded frames.
-fn answer_mapped(line: &[u8], note: SeqNote, map: TempoMap)
+fn answer_mapped<W: Write>(
+    writer: &mut W,
+    line: &[u8],
+    note: SeqNote,
+    map: TempoMap,
+) -> io::Result<()>
     requires numeric { numeric note.pitch }
     requires nonzero { 0 < length (points map) }
 {
@@ -104,75 +127,79 @@ fn answer_mapped(line: &[u8], note: SeqNote, map: TempoMap)
     );
     let n = vectors::u32_field(line, 5) as usize;
     let len = groove::mapped_len(mapped.start, mapped.end, n);
-    vectors::print_u64(mapped.start as u64);
-    vectors::print_u64(mapped.end as u64);
-    vectors::print_f32(mapped.gain);
-    vectors::print_u64(len as u64);
-    vectors::print_u64(groove::sounded_frames(n, mapped.start, len) as u64);
+    vectors::print_u64(writer, mapped.start as u64)?;
+    vectors::print_u64(writer, mapped.end as u64)?;
+    vectors::print_f32(writer, mapped.gain)?;
+    vectors::print_u64(writer, len as u64)?;
+    vectors::print_u64(writer, groove::sounded_frames(n, mapped.start, len) as u64)
 }
 
-fn replay_mapped(line: &[u8]) {
+fn replay_mapped<W: Write>(writer: &mut W, line: &[u8]) -> io::Result<()> {
     let Decoded::Note(note) = note_of(line, 6) else {
-        return;
+        return Ok(());
     };
     let map = map_of(line);
     if map.len() == 0 {
-        return;
+        return Ok(());
     }
     let pitch = note.pitch;
     if pitch.is_sized() {
-        answer_mapped(line, note, map);
+        answer_mapped(writer, line, note, map)?;
     }
+    Ok(())
 }
 
 // draws WAVE RATE PITCH FRAMES STYLE: how many.
-fn replay_draws(line: &[u8]) {
+fn replay_draws<W: Write>(writer: &mut W, line: &[u8]) -> io::Result<()> {
     let WaveAt::Wave(wave) = SeqWave::at(vectors::u32_field(line, 1)) else {
-        return;
+        return Ok(());
     };
     let rate = vectors::u32_field(line, 2);
     if rate < 8000 {
-        return;
+        return Ok(());
     }
     if rate > 192000 {
-        return;
+        return Ok(());
     }
     let frames = vectors::u32_field(line, 4) as usize;
     let StyleAt::Style(style) = KitStyle::at(vectors::u32_field(line, 5)) else {
-        return;
+        return Ok(());
     };
     let draws = draws::draw_count(wave, style, rate, vectors::f32_field(line, 3), frames);
-    vectors::print_u64(draws as u64);
+    vectors::print_u64(writer, draws as u64)
 }
 
-fn replay_line(line: &[u8]) {
-    vectors::print_text(line);
+fn replay_line<W: Write>(writer: &mut W, line: &[u8]) -> io::Result<()> {
+    vectors::print_text(writer, line)?;
     if vectors::is_named(line, b"groove") {
-        replay_groove(line);
+        replay_groove(writer, line)?;
     }
     if vectors::is_named(line, b"mapped") {
-        replay_mapped(line);
+        replay_mapped(writer, line)?;
     }
     if vectors::is_named(line, b"draws") {
-        replay_draws(line);
+        replay_draws(writer, line)?;
     }
-    vectors::print_text(b"\n");
+    vectors::print_text(writer, b"\n")
 }
 
-fn replay(text: &[u8]) {
+fn replay<W: Write>(writer: &mut W, text: &[u8]) -> io::Result<()> {
     let mut at = 0;
     while at < text.len() {
         let end = vectors::line_end(text, at);
-        replay_line(&text[at..end]);
+        replay_line(writer, &text[at..end])?;
         if end == text.len() {
-            return;
+            return Ok(());
         }
         at = end + 1;
     }
+    Ok(())
 }
 
-fn main() {
-    let mut text = io::large_buffer();
-    let n = io::read_full(STDIN_FILENO, &mut text);
-    replay(&text[..n]);
+fn main(rt: HostRuntime) -> io::Result<()> {
+    let mut text = vectors::short_buffer();
+    let n = vectors::read_full(&mut rt.stdin(), &mut text)?;
+    let mut writer = BufWriter::new(rt.alloc(), rt.stdout())?;
+    replay(&mut writer, &text[..n])?;
+    writer.flush()
 }

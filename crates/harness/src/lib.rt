@@ -1,5 +1,7 @@
 // The float helpers, the generator, the kernels, one by one and over blocks, the quarter tones, the drum kit's numbers and a board under C names,
 // for the comparison with Rust and for timing. No customer links this.
+#![tactic(auto)]
+
 mod boards; // boards.rt: a list of operations on a board
 mod helpers; // helpers.rt: the float helpers and the generator
 mod kernels; // kernels.rt: the kernels of det

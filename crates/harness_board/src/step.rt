@@ -9,7 +9,7 @@ use board::{Board, Write, WriteOutcome};
 
 // The board after an operation, its first word and where the next operation starts. Where there is
 // no operation, or a malformed one, `going` is false and the rest is free.
-#[derive(Drop)]
+#[derive(Clone, Copy)]
 pub(crate) struct Step {
     pub(crate) board: Board,
     pub(crate) answer: u32,

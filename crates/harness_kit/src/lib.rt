@@ -1,4 +1,6 @@
 // The drum kit's draws from C: a style by its place.
+#![tactic(auto)]
+
 ghost use Rattle.std.specs.Prelude.{◌≡◌};
 ghost use Rattle.dsl.specs.Kit.{style_at};
 ghost use Rattle.harness_kit.specs.Hits.{hit_draws};

@@ -135,6 +135,8 @@ signed_value h (fin t m e) s k l v =
 
     least' : (p : ℕ) → k < p → min k (p - 1) ≡ k
     least' p h = omega arith
+signed_value h nan s k l v = elim v [ ]
+signed_value h (inf _) s k l v = elim v [ ]
 
 pub near_signed : {x : Float} {s : Bool} {k : ℕ} → Near x s k → (h : ℕ) → k < 2 ^ h → to_signed h (round_of x) ≡ cond s (neg_ℤ (pos k)) (pos k)
 near_signed {x} {s} {k} n h l = signed_value h (round_of x) s k l (near_value n)

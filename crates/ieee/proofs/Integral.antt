@@ -58,6 +58,7 @@ raised_less q m d D h = le_of_suc-le-suc (lt_of_not-le (λ (l : suc m ≤ q). of
   where
     more : (m d : ℕ) → 0 < d → m + d ≤ suc m * d
     more m (suc d) D = omega arith
+    more m zero D = elim D [ ]
 
     off : suc m * d ≤ q * d → ⊥
     off l = omega (arith, more m d D)

@@ -71,6 +71,10 @@ module _ (f : Format) (s t : Bool) (X Y : ℕ) (pos-Y : 0 < Y) where
       ap (λ (b : Bool). cond b nan (round f s' (A % B) C)) (ne_eqb (suc n) 0 (λ (e : suc n ≡ 0). omega arith))
       ∙ ap (λ (z : Bool). round f z (A % B) C) v.0
       ∙ round_same f s (A % B) C (X % Y) l pos_C (pow_pos (low f)) same
+  rem_value nan y v w = elim v [ ]
+  rem_value (lib.Ieee.inf _) y v w = elim v [ ]
+  rem_value (fin s' m e) nan v w = elim w [ ]
+  rem_value (fin s' m e) (lib.Ieee.inf _) v w = elim w [ ]
 
 first_pos : (n b k : ℕ) → n * b ≡ k → 0 < k → 0 < n
 first_pos zero b k e h = absurd (omega (arith, zero-mul b))

@@ -61,6 +61,8 @@ short f s b x v = go x v.held v.is
         let d = fits_parts f t m e h in
         let j = in_units (suc m) b (low f) e d.1 v.1 in
         record { n = suc m; j = j.0; small = d.0; is = j.1 }
+    go lib.Ieee.nan h v = elim v [ ]
+    go (inf _) h v = elim v [ ]
 
 -- ---- what `units` makes: a value of the format, or an infinity
 pub units_value : (f : Format) (s : Bool) (q k : ℕ) → q ≤ 2 ^ prec f → q * 2 ^ k < overflow f → IsValue f s (q * 2 ^ k) (units f s q k)
@@ -101,6 +103,8 @@ unfolding to_bits
 to_bits_value f (fin t m e) s a v =
     (λ i. cond (v.0 i) (top f) 0 + (size (m * up e * 2 ^ low f / down e) - prec f) * hid f + m * up e * 2 ^ low f / down e / 2 ^ (size (m * up e * 2 ^ low f / down e) - prec f))
     ∙ ap (λ (n : ℕ). cond s (top f) 0 + (size n - prec f) * hid f + n / 2 ^ (size n - prec f)) (ap (λ (x : ℕ). x / down e) v.1 ∙ mul-div_cancel a (down_pos e))
+to_bits_value f lib.Ieee.nan s a v = elim v [ ]
+to_bits_value f (inf _) s a v = elim v [ ]
 
 abbrev pub keeps : ℕ → ℕ → ℕ
 keeps p a = a / 2 ^ (size a - p)
@@ -169,3 +173,5 @@ value_below f s b x v = go x v.held v.is
         subst (λ (n : ℕ). b < n) total
         (crossed (zero * up e) (down e) U (down_pos e) v.1 (subst (λ (n : ℕ). n < U * down e) (sym (zero-mul (up e))) (mul-pos (pow_pos (suc (emax f))) (down_pos e))))
     go (fin t (suc m) e) h v = subst (λ (n : ℕ). b < n) total (crossed (suc m * up e) (down e) (2 ^ suc (emax f)) (down_pos e) v.1 (fits_parts f t m e h).2)
+    go lib.Ieee.nan h v = elim v [ ]
+    go (inf _) h v = elim v [ ]

@@ -90,6 +90,12 @@ value_unique f g (fin t (suc m) e) (fin u zero d) s a c C p q v w =
 value_unique f g (fin t (suc m) e) (fin u (suc n) d) s a c C p q v w =
     let r = same_exp (suc m) (suc n) e d (is_odd f t m e p) (is_odd g u n d q) (cross (suc m * up e) (suc n * up d) a c (down e) (down d) C v.1 w.1) in
     λ i. fin ((v.0 ∙ sym w.0) i) (r.0 i) (r.1 i)
+value_unique f g nan y s a c C p q v w = elim v [ ]
+value_unique f g (inf _) y s a c C p q v w = elim v [ ]
+value_unique f g (fin t zero e) nan s a c C p q v w = elim w [ ]
+value_unique f g (fin t zero e) (inf _) s a c C p q v w = elim w [ ]
+value_unique f g (fin t (suc m) e) nan s a c C p q v w = elim w [ ]
+value_unique f g (fin t (suc m) e) (inf _) s a c C p q v w = elim w [ ]
 
 -- ---- the operations, by any fractions that the operands equal
 pub same_test : (a b : Bool) → (T a → T b) → (T b → T a) → a ≡ b
@@ -107,6 +113,10 @@ mul_value f (fin s' m e) (fin t' n g) s t a c b d C D v w =
     (λ i. round f (unlike (v.0 i) (w.0 i)) (m * up e * (n * up g)) (down e * down g))
     ∙ round_same f (unlike s t) (m * up e * (n * up g)) (down e * down g) (a * b) (c * d) (mul-pos (down_pos e) (down_pos g)) (mul-pos C D)
     (products (m * up e) (n * up g) a b c d (down e) (down g) v.1 w.1)
+mul_value f nan y s t a c b d C D v w = elim v [ ]
+mul_value f (inf _) y s t a c b d C D v w = elim v [ ]
+mul_value f (fin s' m e) nan s t a c b d C D v w = elim w [ ]
+mul_value f (fin s' m e) (inf _) s t a c b d C D v w = elim w [ ]
 
 not_eqb : (n : ℕ) → 0 < n → eqb n 0 ≡ false
 not_eqb n h = same_test (eqb n 0) false (λ t. lt_irrefl 0 (subst (λ (x : ℕ). 0 < x) (eqb→eq n 0 t) h)) (λ t. absurd t)
@@ -128,6 +138,10 @@ div_value f (fin s' m e) (fin t' n g) s t a c b d C B D v w =
     ∙ (λ i. round f (unlike (v.0 i) (w.0 i)) (m * up e * down g) (n * up g * down e))
     ∙ round_same f (unlike s t) (m * up e * down g) (n * up g * down e) (a * d) (b * c) (mul-pos (mul-pos n_pos (up_pos g)) (down_pos e)) (mul-pos B C)
     (quotients (m * up e) (n * up g) a b c d (down e) (down g) v.1 w.1)
+div_value f nan y s t a c b d C B D v w = elim v [ ]
+div_value f (inf _) y s t a c b d C B D v w = elim v [ ]
+div_value f (fin s' m e) nan s t a c b d C B D v w = elim w [ ]
+div_value f (fin s' m e) (inf _) s t a c b d C B D v w = elim w [ ]
 
 -- ---- a sum of fractions over one denominator
 scaled_ltb : (a b c a' b' c' : ℕ) → 0 < c → 0 < c' → a * c' ≡ a' * c → b * c' ≡ b' * c → T (ltb a b) → T (ltb a' b')
@@ -163,6 +177,10 @@ add_value f (fin s' m e) (fin t' n g) s t a c b d C D v w =
     (λ i. sum f (v.0 i) (m * up e * down g) (w.0 i) (n * up g * down e) (down e * down g))
     ∙ sum_same f s (m * up e * down g) t (n * up g * down e) (down e * down g) (a * d) (b * c) (c * d) (mul-pos (down_pos e) (down_pos g)) (mul-pos C D)
     (sum_left (m * up e) a c d (down e) (down g) v.1) (sum_right (n * up g) b c d (down e) (down g) w.1)
+add_value f nan y s t a c b d C D v w = elim v [ ]
+add_value f (inf _) y s t a c b d C D v w = elim v [ ]
+add_value f (fin s' m e) nan s t a c b d C D v w = elim w [ ]
+add_value f (fin s' m e) (inf _) s t a c b d C D v w = elim w [ ]
 
 -- ---- the order of two values that are not negative
 pub lt_value : (x y : Float) (a c b d : ℕ) → 0 < c → 0 < d → HasValue x false a c → HasValue y false b d → lt x y ≡ ltb (a * d) (b * c)
@@ -175,3 +193,7 @@ lt_value (fin s m e) (fin t n g) a c b d C D v w =
     ∙ same_test (ltb (m * up e * down g) (n * up g * down e)) (ltb (a * d) (b * c))
     (scaled_ltb (m * up e * down g) (n * up g * down e) (down e * down g) (a * d) (b * c) (c * d) E (mul-pos C D) p q)
     (scaled_ltb (a * d) (b * c) (c * d) (m * up e * down g) (n * up g * down e) (down e * down g) (mul-pos C D) E (sym p) (sym q))
+lt_value nan y a c b d C D v w = elim v [ ]
+lt_value (inf _) y a c b d C D v w = elim v [ ]
+lt_value (fin s m e) nan a c b d C D v w = elim w [ ]
+lt_value (fin s m e) (inf _) a c b d C D v w = elim w [ ]

@@ -1,1 +1,2 @@
 // Definitions and laws of IEEE 754 that the crates above cite; no code of its own.
+#![tactic(auto)]

@@ -1,5 +1,7 @@
 // `kit_drum` of render/kit.rs: one hit of the drum kit. The first pitch picks the drum and the voice's
 // style the kit.
+#![tactic(auto)]
+
 ghost use Rattle.std.specs.Prelude.{◌≡◌, length};
 ghost use Rattle.dsl.specs.Domain.{Rate, Frames};
 ghost use Rattle.rng.specs.SplitMix64.{state_after};

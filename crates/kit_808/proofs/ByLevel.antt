@@ -2,12 +2,9 @@
 use Prim.Native.Nat.{ℕ}
 use mathlib.Core.Path.{◌≡◌, refl}
 use mathlib.Core.List.{List, [], ◌∷◌}
-use types.Run.{OneOf, miss}
-use denote.Enum.Declared.{tag_of}
 use lib.Ieee.{Float}
 use Rattle.ieee.specs.Numbers.{c0}
 use Rattle.osc.specs.Phase.{seconds}
-use Rattle.drum.specs.contracts.Drum.{the_type}
 use Rattle.drum.specs.declared.Drum.{Drum}
 use Rattle.drum.specs.declared.Drum.TheVariants.{Kick, Snare, Rim, Clap, ClosedHat, OpenHat, Tom, Cowbell, Crash, Ride, Unmapped}
 use Rattle.kit_808.specs.declared.drums.Eight08State.{Eight08State}
@@ -16,22 +13,19 @@ use Rattle.kit_808.specs.Eight08.{eight08_drum, eight08_at}
 use Rattle.kit_808.specs.Block.{eight08_clap_level, eight08_level, eight08_clap_by, eight08_noise_by, eight08_by}
 
 -- all but clap and the unmapped
-abbrev others : List ℕ
-others = 0 ∷ 1 ∷ 2 ∷ 4 ∷ 5 ∷ 6 ∷ 7 ∷ 8 ∷ 9 ∷ []
-
-pub no_level : (drum : Drum) (t : Float) → OneOf others (tag_of the_type drum) → c0 ≡ eight08_level drum t
+pub no_level : (drum : Drum) (t : Float) → (drum ≡ Clap → ⊥) → (drum ≡ Unmapped → ⊥) → c0 ≡ eight08_level drum t
 unfolding eight08_level
-no_level Kick t o = refl
-no_level Snare t o = refl
-no_level Rim t o = refl
-no_level Clap t o = absurd (miss others 3 tt o)
-no_level ClosedHat t o = refl
-no_level OpenHat t o = refl
-no_level (Tom above) t o = refl
-no_level Cowbell t o = refl
-no_level Crash t o = refl
-no_level Ride t o = refl
-no_level Unmapped t o = absurd (miss others 10 tt o)
+no_level Kick t a1 a2 = refl
+no_level Snare t a1 a2 = refl
+no_level Rim t a1 a2 = refl
+no_level Clap t a1 a2 = absurd (a1 refl)
+no_level ClosedHat t a1 a2 = refl
+no_level OpenHat t a1 a2 = refl
+no_level (Tom above) t a1 a2 = refl
+no_level Cowbell t a1 a2 = refl
+no_level Crash t a1 a2 = refl
+no_level Ride t a1 a2 = refl
+no_level Unmapped t a1 a2 = absurd (a2 refl)
 
 module _ (srf a6000 cloA chiA : Float) where
   pub by_level : (drum : Drum) (i : ℕ) (s : Eight08State) → eight08_by drum (eight08_level drum (seconds srf i)) srf a6000 cloA chiA i s ≡ eight08_at drum srf a6000 cloA chiA i s

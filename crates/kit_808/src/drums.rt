@@ -9,7 +9,7 @@ ghost use Rattle.kit_808.specs.Block.{eight08_clap_by, eight08_noise_by};
 use rng::{DrawF32, Rng};
 
 // The memories of three filters, the phase of the thumps, and the generator.
-#[derive(Drop)]
+#[derive(Clone, Copy)]
 pub struct Eight08State {
     pub hlp: f32,
     pub clp: f32,
@@ -18,7 +18,7 @@ pub struct Eight08State {
     pub rng: Rng,
 }
 
-#[derive(Drop)]
+#[derive(Clone, Copy)]
 pub struct Eight08Out {
     pub sample: f32,
     pub state: Eight08State,

@@ -2,8 +2,6 @@
 use Prim.Native.Nat.{ℕ}
 use mathlib.Core.Path.{◌≡◌, refl}
 use mathlib.Core.List.{List, [], ◌∷◌}
-use types.Run.{OneOf, miss}
-use denote.Enum.Declared.{tag_of}
 use lib.Ieee.{Float, lt, of_bits}
 use Rattle.ieee.specs.Numbers.{c0, c0·018}
 use Rattle.dsp.specs.Kernels.{exp_of}
@@ -11,7 +9,6 @@ use Rattle.osc.specs.Phase.{seconds}
 use Rattle.voice_cowbell.specs.Cowbell.{cowbell_of, cowbell_at}
 use Rattle.kit_parts.specs.Numbers.{c0·009, c0·027, c0·08, c0·1, c0·32, c540}
 use Rattle.kit_parts.specs.Parts.{fade}
-use Rattle.drum.specs.contracts.Drum.{the_type}
 use Rattle.drum.specs.declared.Drum.{Drum}
 use Rattle.drum.specs.declared.Drum.TheVariants.{Kick, Snare, Rim, Clap, ClosedHat, OpenHat, Tom, Cowbell, Crash, Ride, Unmapped}
 use Rattle.kit_acoustic.specs.declared.drums.Coefficients.{Coefficients}
@@ -20,8 +17,8 @@ use Rattle.kit_acoustic.specs.Drums.{acoustic_unmapped, acoustic_cowbell}
 use Rattle.kit_acoustic.specs.Clap.{burst_of, acoustic_clap}
 use Rattle.kit_acoustic.specs.Cymbals.{acoustic_closed_hat, acoustic_open_hat}
 use Rattle.kit_acoustic.specs.Acoustic.{acoustic_drum, acoustic_at}
-use Rattle.kit_acoustic.specs.Block.{burst_argument, heard_of, clap_mix, acoustic_clap_level, open_hat_mix, acoustic_open_hat_level, acoustic_level}
-use Rattle.kit_acoustic.specs.Block.{acoustic_clap_by, acoustic_closed_hat_by, acoustic_open_hat_by, acoustic_unmapped_by, acoustic_by}
+use Rattle.kit_acoustic.specs.Block.{acoustic_level, acoustic_by, burst_argument, heard_of, clap_mix, acoustic_clap_level, open_hat_mix, acoustic_open_hat_level, acoustic_block_level}
+use Rattle.kit_acoustic.specs.Block.{acoustic_clap_by, acoustic_closed_hat_by, acoustic_open_hat_by, acoustic_unmapped_by, acoustic_block_by}
 
 pub burst_heard : (t d : Float) → heard_of t d (exp_of (burst_argument t d)) ≡ burst_of t d
 unfolding heard_of burst_argument burst_of
@@ -37,30 +34,43 @@ unfolding acoustic_open_hat_level
 open_hat_mixed t e1 e2 = rw (e1, e2)
 
 -- all but clap, hats, cowbell and the unmapped
-abbrev others : List ℕ
-others = 0 ∷ 1 ∷ 2 ∷ 6 ∷ 8 ∷ 9 ∷ []
-
-pub no_level : (drum : Drum) (t : Float) → OneOf others (tag_of the_type drum) → c0 ≡ acoustic_level drum t
-unfolding acoustic_level
-no_level Kick t o = refl
-no_level Snare t o = refl
-no_level Rim t o = refl
-no_level Clap t o = absurd (miss others 3 tt o)
-no_level ClosedHat t o = absurd (miss others 4 tt o)
-no_level OpenHat t o = absurd (miss others 5 tt o)
-no_level (Tom above) t o = refl
-no_level Cowbell t o = absurd (miss others 7 tt o)
-no_level Crash t o = refl
-no_level Ride t o = refl
-no_level Unmapped t o = absurd (miss others 10 tt o)
+pub no_level : (drum : Drum) (t : Float) → (drum ≡ Clap → ⊥) → (drum ≡ ClosedHat → ⊥) → (drum ≡ OpenHat → ⊥) → (drum ≡ Cowbell → ⊥) → (drum ≡ Unmapped → ⊥) → c0 ≡ acoustic_block_level drum t
+unfolding acoustic_block_level
+no_level Kick t a1 a2 a3 a4 a5 = refl
+no_level Snare t a1 a2 a3 a4 a5 = refl
+no_level Rim t a1 a2 a3 a4 a5 = refl
+no_level Clap t a1 a2 a3 a4 a5 = absurd (a1 refl)
+no_level ClosedHat t a1 a2 a3 a4 a5 = absurd (a2 refl)
+no_level OpenHat t a1 a2 a3 a4 a5 = absurd (a3 refl)
+no_level (Tom above) t a1 a2 a3 a4 a5 = refl
+no_level Cowbell t a1 a2 a3 a4 a5 = absurd (a4 refl)
+no_level Crash t a1 a2 a3 a4 a5 = refl
+no_level Ride t a1 a2 a3 a4 a5 = refl
+no_level Unmapped t a1 a2 a3 a4 a5 = absurd (a5 refl)
 
 -- the cowbell's pitch is above 20 Hz
 pub cowbell_level : (srf : Float) (i : ℕ) → cowbell_at c540 srf i ≡ cowbell_of c540 (seconds srf i)
 unfolding cowbell_at lt of_bits
 cowbell_level srf i = refl
 
+pub by_block_level : (drum : Drum) (k : Coefficients) (srf : Float) (i : ℕ) (s : AcousticState) → acoustic_block_by drum (acoustic_block_level drum (seconds srf i)) k srf i s ≡ acoustic_at drum k srf i s
+unfolding acoustic_block_by acoustic_block_level acoustic_drum acoustic_cowbell acoustic_clap_by acoustic_closed_hat_by acoustic_open_hat_by acoustic_unmapped_by
+    acoustic_clap_level clap_mix acoustic_open_hat_level open_hat_mix acoustic_clap acoustic_closed_hat acoustic_open_hat acoustic_unmapped
+by_block_level Kick k srf i s = refl
+by_block_level Snare k srf i s = refl
+by_block_level Rim k srf i s = refl
+by_block_level Clap k srf i s = refl
+by_block_level ClosedHat k srf i s = refl
+by_block_level OpenHat k srf i s = refl
+by_block_level (Tom above) k srf i s = refl
+by_block_level Cowbell k srf i s = refl
+by_block_level Crash k srf i s = refl
+by_block_level Ride k srf i s = refl
+by_block_level Unmapped k srf i s = refl
+
+-- likewise by the level that the cowbell has not
 pub by_level : (drum : Drum) (k : Coefficients) (srf : Float) (i : ℕ) (s : AcousticState) → acoustic_by drum (acoustic_level drum (seconds srf i)) k srf i s ≡ acoustic_at drum k srf i s
-unfolding acoustic_by acoustic_level acoustic_drum acoustic_cowbell acoustic_clap_by acoustic_closed_hat_by acoustic_open_hat_by acoustic_unmapped_by
+unfolding acoustic_by acoustic_level acoustic_drum acoustic_clap_by acoustic_closed_hat_by acoustic_open_hat_by acoustic_unmapped_by
     acoustic_clap_level clap_mix acoustic_open_hat_level open_hat_mix acoustic_clap acoustic_closed_hat acoustic_open_hat acoustic_unmapped
 by_level Kick k srf i s = refl
 by_level Snare k srf i s = refl

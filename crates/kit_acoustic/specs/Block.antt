@@ -13,7 +13,7 @@ use Rattle.drum.specs.declared.Drum.TheVariants.{Kick, Snare, Rim, Clap, ClosedH
 use Rattle.kit_acoustic.specs.declared.drums.Coefficients.{Coefficients}
 use Rattle.kit_acoustic.specs.declared.drums.AcousticState.{AcousticState}
 use Rattle.kit_acoustic.specs.declared.drums.AcousticOut.{AcousticOut}
-use Rattle.kit_acoustic.specs.Drums.{acoustic_kick, acoustic_snare, acoustic_rim, acoustic_tom}
+use Rattle.kit_acoustic.specs.Drums.{acoustic_kick, acoustic_snare, acoustic_rim, acoustic_tom, acoustic_cowbell}
 use Rattle.kit_acoustic.specs.Clap.{burst_of}
 use Rattle.kit_acoustic.specs.Cymbals.{acoustic_crash, acoustic_ride}
 
@@ -40,18 +40,18 @@ unfoldable pub acoustic_open_hat_level : Float → Float
 acoustic_open_hat_level t = open_hat_mix (fade t c0·32) (fade t c0·08)
 
 -- of any other drum 0, which nothing reads
-unfoldable pub acoustic_level : Drum → Float → Float
-acoustic_level Kick t = c0
-acoustic_level Snare t = c0
-acoustic_level Rim t = c0
-acoustic_level Clap t = acoustic_clap_level t
-acoustic_level ClosedHat t = fade t c0·032
-acoustic_level OpenHat t = acoustic_open_hat_level t
-acoustic_level (Tom above) t = c0
-acoustic_level Cowbell t = cowbell_of c540 t
-acoustic_level Crash t = c0
-acoustic_level Ride t = c0
-acoustic_level Unmapped t = fade t c0·08
+unfoldable pub acoustic_block_level : Drum → Float → Float
+acoustic_block_level Kick t = c0
+acoustic_block_level Snare t = c0
+acoustic_block_level Rim t = c0
+acoustic_block_level Clap t = acoustic_clap_level t
+acoustic_block_level ClosedHat t = fade t c0·032
+acoustic_block_level OpenHat t = acoustic_open_hat_level t
+acoustic_block_level (Tom above) t = c0
+acoustic_block_level Cowbell t = cowbell_of c540 t
+acoustic_block_level Crash t = c0
+acoustic_block_level Ride t = c0
+acoustic_block_level Unmapped t = fade t c0·08
 
 -- ---- frames by their levels
 
@@ -97,6 +97,34 @@ acoustic_unmapped_by level k s =
     }
 
 -- frame i, whose level is given
+unfoldable pub acoustic_block_by : Drum → Float → Coefficients → Float → ℕ → AcousticState → AcousticOut
+acoustic_block_by Kick level k srf i s = acoustic_kick k srf (seconds srf i) s
+acoustic_block_by Snare level k srf i s = acoustic_snare k (seconds srf i) s
+acoustic_block_by Rim level k srf i s = acoustic_rim k (seconds srf i) s
+acoustic_block_by Clap level k srf i s = acoustic_clap_by level k s
+acoustic_block_by ClosedHat level k srf i s = acoustic_closed_hat_by level k s
+acoustic_block_by OpenHat level k srf i s = acoustic_open_hat_by level k s
+acoustic_block_by (Tom above) level k srf i s = acoustic_tom above k srf (seconds srf i) s
+acoustic_block_by Cowbell level k srf i s = record { sample = level; state = s }
+acoustic_block_by Crash level k srf i s = acoustic_crash k (seconds srf i) s
+acoustic_block_by Ride level k srf i s = acoustic_ride k (seconds srf i) s
+acoustic_block_by Unmapped level k srf i s = acoustic_unmapped_by level k s
+
+-- the same without the cowbell among the drums that have a level
+unfoldable pub acoustic_level : Drum → Float → Float
+acoustic_level Kick t = c0
+acoustic_level Snare t = c0
+acoustic_level Rim t = c0
+acoustic_level Clap t = acoustic_clap_level t
+acoustic_level ClosedHat t = fade t c0·032
+acoustic_level OpenHat t = acoustic_open_hat_level t
+acoustic_level (Tom above) t = c0
+acoustic_level Cowbell t = c0
+acoustic_level Crash t = c0
+acoustic_level Ride t = c0
+acoustic_level Unmapped t = fade t c0·08
+
+-- a frame by that level: the cowbell by itself
 unfoldable pub acoustic_by : Drum → Float → Coefficients → Float → ℕ → AcousticState → AcousticOut
 acoustic_by Kick level k srf i s = acoustic_kick k srf (seconds srf i) s
 acoustic_by Snare level k srf i s = acoustic_snare k (seconds srf i) s
@@ -105,7 +133,7 @@ acoustic_by Clap level k srf i s = acoustic_clap_by level k s
 acoustic_by ClosedHat level k srf i s = acoustic_closed_hat_by level k s
 acoustic_by OpenHat level k srf i s = acoustic_open_hat_by level k s
 acoustic_by (Tom above) level k srf i s = acoustic_tom above k srf (seconds srf i) s
-acoustic_by Cowbell level k srf i s = record { sample = level; state = s }
+acoustic_by Cowbell level k srf i s = acoustic_cowbell (seconds srf i) s
 acoustic_by Crash level k srf i s = acoustic_crash k (seconds srf i) s
 acoustic_by Ride level k srf i s = acoustic_ride k (seconds srf i) s
 acoustic_by Unmapped level k srf i s = acoustic_unmapped_by level k s

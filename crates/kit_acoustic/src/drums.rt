@@ -7,7 +7,7 @@ ghost use Rattle.kit_acoustic.specs.Block.{acoustic_unmapped_by};
 use rng::Rng;
 
 // A one-pole filter's step, by its corner frequency in hertz.
-#[derive(Drop)]
+#[derive(Clone, Copy)]
 pub struct Coefficients {
     pub a400: f32,
     pub a900: f32,
@@ -24,7 +24,7 @@ pub struct Coefficients {
 }
 
 // The memories of three filters, the phases of the thumps, and the generator.
-#[derive(Drop)]
+#[derive(Clone, Copy)]
 pub struct AcousticState {
     pub lpa: f32,
     pub lpb: f32,
@@ -34,14 +34,14 @@ pub struct AcousticState {
     pub rng: Rng,
 }
 
-#[derive(Drop)]
+#[derive(Clone, Copy)]
 pub struct AcousticOut {
     pub sample: f32,
     pub state: AcousticState,
 }
 
 // What a kick's beater adds, the filter's memory and the generator after it.
-#[derive(Drop)]
+#[derive(Clone, Copy)]
 pub struct Knock {
     pub click: f32,
     pub lpa: f32,

@@ -8,7 +8,7 @@ ghost use Rattle.rng.specs.SplitMix64.{state_after};
 ghost use Rattle.counts.specs.Draws.{passing};
 ghost use Rattle.kit_counts.specs.KitDraws.{acoustic_draws};
 ghost use Rattle.kit_acoustic.specs.Acoustic.{coefficients_of, acoustic_frames};
-ghost use Rattle.kit_acoustic.specs.Block.{acoustic_by};
+ghost use Rattle.kit_acoustic.specs.Block.{acoustic_block_by};
 
 use crate::clap::clap;
 use crate::cymbals::{closed_hat, crash, open_hat, ride};
@@ -47,7 +47,7 @@ fn drum_frame(
     s: AcousticState,
 ) -> AcousticOut
     requires { Frames i }
-    ensures { result ≡ acoustic_by drum level k srf i s }
+    ensures { result ≡ acoustic_block_by drum level k srf i s }
 {
     let t = osc::frame_time(i, srf);
     match drum {
@@ -80,7 +80,7 @@ fn drum_block(
     out: &mut [f32],
 ) -> AcousticState
     requires { (from ≤ end) × (end ≤ from + 64) × (end ≤ 16777216) × (end ≤ length out.old) }
-    ensures { Carried (λ i. acoustic_by drum (get_or a.now (i - from) nan) k srf i) (λ o. o.sample) (λ o. o.state)
+    ensures { Carried (λ i. acoustic_block_by drum (get_or a.now (i - from) nan) k srf i) (λ o. o.sample) (λ o. o.state)
         from end out.old start out.new result }
 {
     let mut s = start;

@@ -4,7 +4,7 @@ ghost use Rattle.std.specs.Prelude.{◌≡◌, ◌+◌, ◌≤◌, length, get_o
 ghost use Rattle.std.specs.Float.{nan};
 ghost use Rattle.blocks.proofs.Block.{Tabled};
 ghost use Rattle.osc.specs.Phase.{seconds};
-ghost use Rattle.kit_acoustic.specs.Block.{open_hat_mix, acoustic_open_hat_level, acoustic_level};
+ghost use Rattle.kit_acoustic.specs.Block.{open_hat_mix, acoustic_open_hat_level, acoustic_block_level};
 
 use crate::clap::clap_levels;
 use drum::Drum;
@@ -45,7 +45,7 @@ fn open_hat_levels(srf: f32, from: usize, end: usize, a: &mut [f32; 64])
 pub fn levels(drum: Drum, srf: f32, from: usize, end: usize, a: &mut [f32; 64])
     requires from_le_end { (from ≤ end) × (end ≤ from + 64) × (end ≤ 16777216) }
     requires a_len { length a.old ≡ 64 }
-    ensures { (length a.new ≡ 64) × Tabled (λ i. acoustic_level drum (seconds srf i)) nan from end a.new }
+    ensures { (length a.new ≡ 64) × Tabled (λ i. acoustic_block_level drum (seconds srf i)) nan from end a.new }
 {
     match drum {
         Drum::Clap => clap_levels(srf, from, end, a),

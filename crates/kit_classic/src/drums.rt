@@ -7,14 +7,14 @@ ghost use Rattle.kit_classic.specs.Block.{classic_noise_by};
 use rng::{DrawF32, Rng};
 
 // The filter's memory, the phase of the thumps, and the generator.
-#[derive(Drop)]
+#[derive(Clone, Copy)]
 pub struct ClassicState {
     pub lp: f32,
     pub phase: f32,
     pub rng: Rng,
 }
 
-#[derive(Drop)]
+#[derive(Clone, Copy)]
 pub struct ClassicOut {
     pub sample: f32,
     pub state: ClassicState,

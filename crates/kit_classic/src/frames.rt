@@ -8,7 +8,7 @@ ghost use Rattle.rng.specs.SplitMix64.{state_after};
 ghost use Rattle.counts.specs.Draws.{passing};
 ghost use Rattle.kit_counts.specs.KitDraws.{classic_draws};
 ghost use Rattle.kit_classic.specs.Classic.{classic_frames};
-ghost use Rattle.kit_classic.specs.Block.{classic_by};
+ghost use Rattle.kit_classic.specs.Block.{classic_block_by};
 
 use crate::cymbals::{hiss, ride};
 use crate::drums::{ClassicOut, ClassicState, kick, noise, rim, snare, tom};
@@ -19,7 +19,7 @@ use rng::Rng;
 // A frame at its time, or by its level where that is all that the time gives it.
 fn drum_frame(drum: Drum, level: f32, srf: f32, hp_a: f32, i: usize, s: ClassicState) -> ClassicOut
     requires { Frames i }
-    ensures { result ≡ classic_by drum level srf hp_a i s }
+    ensures { result ≡ classic_block_by drum level srf hp_a i s }
 {
     let t = osc::frame_time(i, srf);
     match drum {
@@ -52,7 +52,7 @@ fn drum_block(
     out: &mut [f32],
 ) -> ClassicState
     requires { (from ≤ end) × (end ≤ from + 64) × (end ≤ 16777216) × (end ≤ length out.old) }
-    ensures { Carried (λ i. classic_by drum (get_or a.now (i - from) nan) srf hp_a i) (λ o. o.sample) (λ o. o.state)
+    ensures { Carried (λ i. classic_block_by drum (get_or a.now (i - from) nan) srf hp_a i) (λ o. o.sample) (λ o. o.state)
         from end out.old start out.new result }
 {
     let mut s = start;

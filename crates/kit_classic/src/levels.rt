@@ -4,7 +4,7 @@ ghost use Rattle.std.specs.Prelude.{◌≡◌, ◌+◌, ◌≤◌, length};
 ghost use Rattle.std.specs.Float.{nan};
 ghost use Rattle.blocks.proofs.Block.{Tabled};
 ghost use Rattle.osc.specs.Phase.{seconds};
-ghost use Rattle.kit_classic.specs.Block.{classic_level};
+ghost use Rattle.kit_classic.specs.Block.{classic_block_level};
 
 use drum::Drum;
 use frame_block::{decays_before, zeros_before};
@@ -14,7 +14,7 @@ use voice_cowbell::cowbell_before;
 pub fn levels(drum: Drum, srf: f32, from: usize, end: usize, a: &mut [f32; 64])
     requires from_le_end { (from ≤ end) × (end ≤ from + 64) × (end ≤ 16777216) }
     requires a_len { length a.old ≡ 64 }
-    ensures { (length a.new ≡ 64) × Tabled (λ i. classic_level drum (seconds srf i)) nan from end a.new }
+    ensures { (length a.new ≡ 64) × Tabled (λ i. classic_block_level drum (seconds srf i)) nan from end a.new }
 {
     match drum {
         Drum::Clap => decays_before(srf, 0.09, from, end, a),

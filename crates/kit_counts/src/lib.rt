@@ -1,5 +1,7 @@
 // The draws of a hit of the drum kit, known before it is voiced. At a rate of the domain they are the
 // frames whose time passes the source's tests in f32 (the law `kit_count`).
+#![tactic(auto)]
+
 ghost use Rattle.std.specs.Prelude.{◌≡◌, ◌≤◌};
 ghost use Rattle.kit_counts.specs.KitDraws.{frames_of, draws_within, eight08_within, kit_draws};
 

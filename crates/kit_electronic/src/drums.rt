@@ -9,7 +9,7 @@ ghost use Rattle.kit_electronic.specs.Block.{electronic_clap_by};
 use rng::{DrawF32, Rng};
 
 // The memories of two filters, the phase of the thumps, and the generator.
-#[derive(Drop)]
+#[derive(Clone, Copy)]
 pub struct ElectronicState {
     pub lp: f32,
     pub lp2: f32,
@@ -17,7 +17,7 @@ pub struct ElectronicState {
     pub rng: Rng,
 }
 
-#[derive(Drop)]
+#[derive(Clone, Copy)]
 pub struct ElectronicOut {
     pub sample: f32,
     pub state: ElectronicState,

@@ -8,7 +8,7 @@ ghost use Rattle.rng.specs.SplitMix64.{state_after};
 ghost use Rattle.counts.specs.Draws.{passing};
 ghost use Rattle.kit_counts.specs.KitDraws.{electronic_draws};
 ghost use Rattle.kit_electronic.specs.Electronic.{electronic_frames};
-ghost use Rattle.kit_electronic.specs.Block.{electronic_by};
+ghost use Rattle.kit_electronic.specs.Block.{electronic_block_by};
 
 use crate::cymbals::{crash, hiss, open_hat, ride};
 use crate::drums::{ElectronicOut, ElectronicState, clap, kick, rim, snare, tom};
@@ -28,7 +28,7 @@ fn drum_frame(
     s: ElectronicState,
 ) -> ElectronicOut
     requires { Frames i }
-    ensures { result ≡ electronic_by drum level srf a5500 a9000 i s }
+    ensures { result ≡ electronic_block_by drum level srf a5500 a9000 i s }
 {
     let t = osc::frame_time(i, srf);
     match drum {
@@ -62,7 +62,7 @@ fn drum_block(
     out: &mut [f32],
 ) -> ElectronicState
     requires { (from ≤ end) × (end ≤ from + 64) × (end ≤ 16777216) × (end ≤ length out.old) }
-    ensures { Carried (λ i. electronic_by drum (get_or a.now (i - from) nan) srf a5500 a9000 i) (λ o. o.sample) (λ o. o.state)
+    ensures { Carried (λ i. electronic_block_by drum (get_or a.now (i - from) nan) srf a5500 a9000 i) (λ o. o.sample) (λ o. o.state)
         from end out.old start out.new result }
 {
     let mut s = start;

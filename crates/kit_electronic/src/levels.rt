@@ -4,7 +4,7 @@ ghost use Rattle.std.specs.Prelude.{◌≡◌, ◌+◌, ◌≤◌, length};
 ghost use Rattle.std.specs.Float.{nan};
 ghost use Rattle.blocks.proofs.Block.{Tabled};
 ghost use Rattle.osc.specs.Phase.{seconds};
-ghost use Rattle.kit_electronic.specs.Block.{electronic_level};
+ghost use Rattle.kit_electronic.specs.Block.{electronic_block_level};
 
 use crate::clap::claps_before;
 use drum::Drum;
@@ -15,7 +15,7 @@ use voice_cowbell::cowbell_before;
 pub fn levels(drum: Drum, srf: f32, from: usize, end: usize, a: &mut [f32; 64])
     requires from_le_end { (from ≤ end) × (end ≤ from + 64) × (end ≤ 16777216) }
     requires a_len { length a.old ≡ 64 }
-    ensures { (length a.new ≡ 64) × Tabled (λ i. electronic_level drum (seconds srf i)) nan from end a.new }
+    ensures { (length a.new ≡ 64) × Tabled (λ i. electronic_block_level drum (seconds srf i)) nan from end a.new }
 {
     match drum {
         Drum::Clap => claps_before(srf, from, end, a),

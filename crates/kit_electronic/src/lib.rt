@@ -1,5 +1,7 @@
 // `kit_drum_electronic` of render/kit.rs: a clean synthesized kit. A drum is a frame function, in the
 // order of the source's operations; the drum is handed in, and each frame matches it.
+#![tactic(auto)]
+
 mod cymbals; // cymbals.rt: hats, crash, ride and the unmapped
 mod drums; // drums.rt: kick, snare, rim, clap and toms
 mod clap; // clap.rt: the levels of a clap

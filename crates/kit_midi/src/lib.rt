@@ -1,5 +1,7 @@
 // The drum that a hit plays. It alone of what judges a score needs a logarithm, so it is a crate of its
 // own.
+#![tactic(auto)]
+
 ghost use Rattle.std.specs.Prelude.{◌≡◌};
 ghost use Rattle.kit_midi.specs.Midi.{midi_of, first_drum};
 

@@ -1,5 +1,7 @@
 // What the four styles of render/kit.rs share: the coefficient of a one-pole filter, and the notions of
 // its definitions.
+#![tactic(auto)]
+
 ghost use Rattle.std.specs.Prelude.{◌≡◌};
 ghost use Rattle.kit_parts.specs.Parts.{coefficient};
 

@@ -1,3 +1,4 @@
 pub mod Mixing
 mod Stretching
 mod Staged
+mod StagedByEnvelope

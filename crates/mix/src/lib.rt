@@ -1,4 +1,6 @@
 // The frames of a score, and how they gain a note: the sum at the end of `render_seq` of render/seq.rs.
+#![tactic(auto)]
+
 mod stages; // stages.rt: the loops over the frames of a stage
 
 ghost use Rattle.std.specs.Prelude.{◌≡◌, ◌+◌, ◌≤◌, length};

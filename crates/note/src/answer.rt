@@ -6,7 +6,7 @@ use outcome::{Outcome, Refusal};
 use rng::Rng;
 
 // A note call's answer, and the generator after it.
-#[derive(Drop)]
+#[derive(Clone, Copy)]
 pub struct NoteAnswer {
     pub rng: Rng,
     pub outcome: Outcome,

@@ -1,5 +1,7 @@
 // The note call: one voice at one gain over a pitch slice and a duty slice, from a generator that it
 // hands back.
+#![tactic(auto)]
+
 mod answer; // answer.rt: what it answers
 mod call; // call.rt: the note call
 

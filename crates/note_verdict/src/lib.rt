@@ -1,4 +1,6 @@
 // What refuses a note call, in the order of the tests.
+#![tactic(auto)]
+
 ghost use Rattle.std.specs.Prelude.{◌≡◌};
 ghost use Rattle.note_verdict.specs.NoteRefusals.{note_call_refusal};
 

@@ -1,11 +1,13 @@
 // render/osc.rs: the oscillators, and the steps that most voices share.
+#![tactic(auto)]
+
 ghost use Rattle.std.specs.Prelude.{◌≡◌};
 ghost use Rattle.dsl.specs.Domain.{Frames};
 ghost use Rattle.osc.specs.Osc.{poly_blep, osc_of, saw_of};
 ghost use Rattle.osc.specs.Phase.{wrapped, increment, seconds};
 
 // The waveforms.
-#[derive(Drop)]
+#[derive(Clone, Copy)]
 pub enum Shape {
     Sine,
     Square,

@@ -1,4 +1,6 @@
 // What a call answers: the draws that it made, or why it was refused.
+#![tactic(auto)]
+
 mod answer; // answer.rt: refusals with their numbers, outcomes, verdicts
 mod verdict; // verdict.rt: the first refusal that applies
 

@@ -8,7 +8,7 @@ use session::{Named, Session};
 
 // What a planning call answers: the session as it was, and the draws that the score call would make or why it would be
 // refused.
-#[derive(Drop)]
+#[derive(Clone, Copy)]
 pub struct Plan {
     pub session: Session,
     pub outcome: Outcome,

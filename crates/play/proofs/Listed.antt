@@ -5,7 +5,7 @@ use mathlib.Core.List.{List, ◌++◌}
 use native.Mathlib.Omega.{arith}
 use lib.ListN.{length, take, drop}
 use lib.Seq.{length-take-le}
-use Rattle.io.specs.Counts.{IsPrefixLen}
+use Rattle.programs.specs.Counts.{IsPrefixLen}
 use Rattle.text_judge.proofs.Refused.{refusal_long}
 use Rattle.text.specs.Listing.{listing}
 use Rattle.text.proofs.Most.{listing_most}

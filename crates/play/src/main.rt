@@ -1,11 +1,14 @@
 // Reads a text score from standard input and writes its listing to standard output.
+#![tactic(auto)]
+
 ghost use Rattle.std.specs.Prelude.{◌≡◌, ◌++◌, ◌<◌, ◌≤◌, length, drop};
-ghost use Rattle.io.specs.Counts.{IsPrefixLen};
+ghost use Rattle.programs.specs.Counts.{IsPrefixLen};
 ghost use Rattle.text.specs.Listing.{listing};
 ghost use Rattle.play.specs.Input.{InputListed};
 
-use libc::STDOUT_FILENO;
 use programs::{Input, input_buffer, read_input};
+use std::io;
+use std::io::Write;
 use text_reply::Reply;
 
 // No listing is longer (the law `listing_most` of text).
@@ -40,10 +43,10 @@ fn list_input(score: &[u8], input: Input, reply: &mut [u8]) -> usize
     put_listing(&score[..read], reply)
 }
 
-fn main() {
+fn main(rt: HostRuntime) -> io::Result<()> {
     let mut score = input_buffer();
-    let input = read_input(&mut score);
+    let input = read_input(&mut rt.stdin(), &mut score)?;
     let mut reply = reply_buffer();
     let written = list_input(&score, input, &mut reply);
-    io::write_all(STDOUT_FILENO, &reply[..written]);
+    rt.stdout().write_all(&reply[..written])
 }

@@ -1,11 +1,13 @@
 // Quarter tones by number: the pitches of 24 steps to the octave, from 8.2 Hz at q = 0 to 12.9 kHz at
 // q = 255, with A at 440 Hz at q = 138.
+#![tactic(auto)]
+
 ghost use Rattle.std.specs.Prelude.{◌≡◌};
 ghost use Rattle.quarter_tone.specs.Halves.{halves};
 ghost use Rattle.quarter_tone.specs.Lookup.{tone_of, tone_bits};
 
 // The quarter tone of a number in hertz, or nothing for a number above 255.
-#[derive(Drop)]
+#[derive(Clone, Copy)]
 pub enum QuarterTone {
     Tone(f32),
     Nothing,

@@ -1,13 +1,16 @@
 // The table of quarter tones: the f32 bits of its 256 entries from q = 0 on, one a line.
-use libc::STDOUT_FILENO;
+#![tactic(auto)]
 
-fn print_entry(q: u32) {
-    io::print_hex(STDOUT_FILENO, quarter_tone::quarter_tone_bits(q) as u64, 8);
-    io::write_all(STDOUT_FILENO, b"\n");
+use std::io;
+
+fn print_entry(rt: &impl Print, q: u32) -> io::Result<()> {
+    let bits = quarter_tone::quarter_tone_bits(q);
+    println!(rt; "{bits:08x}")
 }
 
-fn main() {
+fn main(rt: HostRuntime) -> io::Result<()> {
     for q in 0..256 {
-        print_entry(q);
+        print_entry(&rt, q)?;
     }
+    Ok(())
 }

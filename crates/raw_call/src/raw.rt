@@ -9,7 +9,7 @@ use raw_knobs::{EnvAt, VoiceAt, env_at, voice_at};
 use score::{Seq, Timing};
 
 // The voice and the envelope of a call, or nothing where no call is made.
-#[derive(Drop)]
+#[derive(Clone, Copy)]
 pub enum Parts {
     Both(SeqVoice, Adsr),
     Nothing,

@@ -1,5 +1,7 @@
 // The voice of a wave's place, a style's, of 22 knobs and of 10 numbers of drawbars, and the envelope of 5
 // values: what the calls from C and the outside vectors have in place of a voice and an envelope.
+#![tactic(auto)]
+
 ghost use Rattle.std.specs.Prelude.{◌≡◌, length};
 ghost use Rattle.dsl.specs.Sets.{fm_by, pluck_by, piano_by, bass_by, drawbars_by};
 ghost use Rattle.raw_knobs.specs.Knobs.{knob_from, voice_at, env_at};
@@ -10,14 +12,14 @@ use dsl::{
 };
 
 // A voice, or nothing where there is no such wave or style, or there are not 22 knobs and 10 numbers of drawbars.
-#[derive(Drop)]
+#[derive(Clone, Copy)]
 pub enum VoiceAt {
     Voice(SeqVoice),
     Nothing,
 }
 
 // An envelope, or nothing where there are not 5 values.
-#[derive(Drop)]
+#[derive(Clone, Copy)]
 pub enum EnvAt {
     Env(Adsr),
     Nothing,

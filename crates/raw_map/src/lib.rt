@@ -1,4 +1,6 @@
 // A tempo map from words: what the calls from C and the outside vectors have in place of one.
+#![tactic(auto)]
+
 ghost use Rattle.std.specs.Prelude.{◌≡◌, ◌+◌, ◌*◌, ◌≤◌, ◌<◌, min, ◌++◌, length, drop};
 ghost use Rattle.laws.specs.Listed.{listed};
 ghost use Rattle.tempo.specs.Map.{no_map};

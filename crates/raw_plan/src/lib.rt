@@ -1,4 +1,6 @@
 // The planning call from numbers and slices.
+#![tactic(auto)]
+
 ghost use Rattle.raw_plan.specs.Plan.{PlanExported};
 
 use raw_call::{Parts, draws_of, number_of, parts_at, seq_of, session_of};

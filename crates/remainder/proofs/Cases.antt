@@ -137,12 +137,18 @@ of_infinite x y s e = ap (λ (z : Float). rem binary32 z y) (sym e)
 by_infinite : (x y : Float) (s t : Bool) (X : ℕ) → HasValue x s X (2 ^ 149) → y ≡ inf t → x ≡ rem binary32 x y
 unfolding rem
 by_infinite (fin s' m e) y s t X v h = ap (rem binary32 (fin s' m e)) {x = inf t} (sym h)
+by_infinite nan y s t X v h = elim v [ ]
+by_infinite (inf _) y s t X v h = elim v [ ]
 
 by_zero : (x y : Float) (s t : Bool) (X : ℕ) → HasValue x s X (2 ^ 149) → HasValue y t 0 (2 ^ 149) → nan ≡ rem binary32 x y
 unfolding rem
 by_zero (fin s' m e) (fin t' zero d) s t X v w = refl
 by_zero (fin s' m e) (fin t' (suc n) d) s t X v w =
     absurd (lt_irrefl 0 (subst (λ (z : ℕ). 0 < z) (w.1 ∙ zero-mul (down d)) (mul-pos (mul-pos (zero-lt-suc n) (up_pos d)) (pow_pos 149))))
+by_zero nan y s t X v w = elim v [ ]
+by_zero (inf _) y s t X v w = elim v [ ]
+by_zero (fin s' m e) nan s t X v w = elim w [ ]
+by_zero (fin s' m e) (inf _) s t X v w = elim w [ ]
 
 module _ (x y : Float) (fx : T (fits binary32 x)) (fy : T (fits binary32 y)) (nx : T (not (is_nan x))) (ny : T (not (is_nan y))) where
   abbrev M : ℕ

@@ -7,9 +7,12 @@
 // `compare replay-vectors` writes stdin and stdout, by the original's code and no listing of ours
 // (compare/src/text_cases.rs has the cases). Each wave has among them a short score, one of 2,048
 // frames at 48,000 a second through a chord, and one note held over 2,048 frames at 8,000 a second.
-ghost use Rattle.std.specs.Prelude.{◌≤◌, ◌<◌, length};
+#![tactic(auto)]
 
-use libc::STDIN_FILENO;
+ghost use Rattle.std.specs.Prelude.{◌≤◌, ◌<◌, length, IfOk};
+
+use std::io;
+use std::io::{BufWriter, Write};
 
 // FNV-1a of 64 bits: where it starts, and what it multiplies by.
 const FNV_OFFSET: u64 = 0xcbf2_9ce4_8422_2325;
@@ -33,54 +36,63 @@ fn hash(bytes: &[u8]) -> u64 {
     h
 }
 
-fn print_answer(line: &[u8], answer: i64, reply: &[u8]) {
-    vectors::print_text(line);
-    vectors::print_i64(answer);
-    vectors::print_u64(hash(reply));
-    vectors::print_text(b"\n");
+fn print_answer<W: Write>(
+    writer: &mut W,
+    line: &[u8],
+    answer: i64,
+    reply: &[u8],
+) -> io::Result<()> {
+    vectors::print_text(writer, line)?;
+    vectors::print_i64(writer, answer)?;
+    vectors::print_u64(writer, hash(reply))?;
+    vectors::print_text(writer, b"\n")?;
     if vectors::is_named(line, b"show") {
-        vectors::print_text(reply);
-        vectors::print_text(b"\n");
+        vectors::print_text(writer, reply)?;
+        vectors::print_text(writer, b"\n")?;
     }
+    Ok(())
 }
 
-fn call(line: &[u8], text: &[u8], reply: &mut [u8]) {
+fn call<W: Write>(writer: &mut W, line: &[u8], text: &[u8], reply: &mut [u8]) -> io::Result<()> {
     let answer = tono::tono_play(text, reply);
-    print_answer(line, answer, reply);
+    print_answer(writer, line, answer, reply)
 }
 
-fn replay_case(line: &[u8], text: &[u8]) {
+fn replay_case<W: Write>(writer: &mut W, line: &[u8], text: &[u8]) -> io::Result<()> {
     let n = vectors::length_field(line, 2, MOST_REPLY);
     let mut space = [b'.'; 33024];
-    call(line, text, &mut space[..n]);
+    call(writer, line, text, &mut space[..n])
 }
 
 // The place after the case at `at`: its line, and the bytes of its text, or as many as are left.
-fn replay_from(input: &[u8], at: usize) -> usize
+fn replay_from<W: Write>(writer: &mut W, input: &[u8], at: usize) -> io::Result<usize>
     requires { at < length input.now }
-    ensures { (at < result) × (result ≤ length input.now) }
+    ensures { IfOk result (λ next. (at < next) × (next ≤ length input.now)) }
 {
     let end = vectors::line_end(input, at);
     if end == input.len() {
-        return end;
+        return Ok(end);
     }
     let start = end + 1;
     let line = &input[at..end];
     let length = vectors::length_field(line, 1, input.len() - start);
     let stop = start + length;
-    replay_case(line, &input[start..stop]);
-    stop
+    replay_case(writer, line, &input[start..stop])?;
+    Ok(stop)
 }
 
-fn replay(input: &[u8]) {
+fn replay<W: Write>(writer: &mut W, input: &[u8]) -> io::Result<()> {
     let mut at = 0;
     while at < input.len() {
-        at = replay_from(input, at);
+        at = replay_from(writer, input, at)?;
     }
+    Ok(())
 }
 
-fn main() {
+fn main(rt: HostRuntime) -> io::Result<()> {
     let mut input = vectors::input_buffer();
-    let n = io::read_full(STDIN_FILENO, &mut input);
-    replay(&input[..n]);
+    let n = vectors::read_full(&mut rt.stdin(), &mut input)?;
+    let mut writer = BufWriter::new(rt.alloc(), rt.stdout())?;
+    replay(&mut writer, &input[..n])?;
+    writer.flush()
 }

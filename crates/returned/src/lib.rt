@@ -1,4 +1,6 @@
 // What a C call returns as its number: a length, or minus a refusal's number.
+#![tactic(auto)]
+
 ghost use Rattle.std.specs.Prelude.{◌≡◌, ◌^◌, ◌<◌, pos, neg_ℤ};
 
 // A slice has fewer than 2^63 values.

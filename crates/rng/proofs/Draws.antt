@@ -96,6 +96,8 @@ below_one (fin s m e) a c v =
     let M = m * up e * 1 in
     let D = 1 * 1 * down e in
     subst (λ (s : Bool). T (below s M false D)) (sym v.0) (lt→ltb 0 (M + D) (lt_of_lt_of_le (mul-pos (zero-lt-suc 0) (down_pos e)) (le-add_left D M)))
+below_one lib.Ieee.nan a c v = elim v [ ]
+below_one (lib.Ieee.inf _) a c v = elim v [ ]
 
 pub bi_below_one : (k : ℕ) → k < 2 ^ 24 → T (lt (bi_of k) (fin false 1 (pos 0)))
 bi_below_one k h = go (ltb k (2 ^ 23)) (ltb→lt k (2 ^ 23)) (nltb→le k (2 ^ 23))

@@ -1,4 +1,6 @@
 // The generator of dsp.rs: SplitMix64, and its draws at f32.
+#![tactic(auto)]
+
 ghost use Rattle.std.specs.Prelude.{◌≡◌};
 ghost use Rattle.rng.specs.SplitMix64.{mix, advance, next, state_after};
 ghost use Rattle.rng.specs.Draw.{unit_from, bi_from};
@@ -16,17 +18,17 @@ pub fn splitmix_mix(z: u64) -> u64
 }
 
 // The generator's state. It is a type of its own, so that a state is never taken for a draw count.
-#[derive(Drop)]
+#[derive(Clone, Copy)]
 pub struct Rng(u64);
 
 // What a draw gives, and the generator after it.
-#[derive(Drop)]
+#[derive(Clone, Copy)]
 pub struct DrawU64 {
     pub value: u64,
     pub rng: Rng,
 }
 
-#[derive(Drop)]
+#[derive(Clone, Copy)]
 pub struct DrawF32 {
     pub value: f32,
     pub rng: Rng,

@@ -1,4 +1,6 @@
 // How many draws lie between two states of a generator.
+#![tactic(auto)]
+
 ghost use Rattle.std.specs.Prelude.{◌≡◌, ℕ, ◌^◌, ◌<◌};
 ghost use Rattle.rng.specs.SplitMix64.{state_after};
 

@@ -59,6 +59,8 @@ pub narrow_at : (x : Float) (s : Bool) (a c : ℕ) → 0 < c → HasValue x s a 
 unfolding narrow_of
 narrow_at (fin t m e) s a c C v =
     (λ i. round binary32 (v.0 i) (m * up e) (down e)) ∙ round_same binary32 s (m * up e) (down e) a c (down_pos e) C v.1
+narrow_at lib.Ieee.nan s a c C v = elim v [ ]
+narrow_at (inf _) s a c C v = elim v [ ]
 
 -- ---- the cases of the code, by the fields of x
 module _ (x : Float) (fit : T (fits binary64 x)) where

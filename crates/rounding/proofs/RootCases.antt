@@ -106,6 +106,8 @@ root_at_lem (fin true (suc m) e) s a c A C l v =
     clash (ltb 0 (suc m * up e * 1 + 0 * down e))
     (lt→ltb 0 (suc m * up e * 1 + 0 * down e) (lt_of_lt_of_le (mul-pos (mul-pos (zero-lt-suc m) (up_pos e)) (zero-lt-suc 0)) (le-add_right (suc m * up e * 1) (0 * down e)))) l
 root_at_lem (fin false (suc m) e) s a c A C l v = sym (root_same binary32 (suc m * up e) (down e) a c (down_pos e) C v.1)
+root_at_lem nan s a c A C l v = elim v [ ]
+root_at_lem (inf _) s a c A C l v = elim v [ ]
 
 -- a value that is not zero has a fraction that is not
 value_zero : (x : Float) (s : Bool) (a c : ℕ) → 0 < c → a ≡ 0 → HasValue x s a c → eq x (fin false 0 (pos 0)) ≡ true
@@ -120,6 +122,8 @@ value_zero (fin t zero e) s a c C z v = level_zero t (0 * up e * 1) (0 * down e)
     level_zero t p q g h = (λ i. level t (g i) false (h i)) ∙ both t
 value_zero (fin t (suc m) e) s a c C z v =
     absurd (lt_irrefl 0 (subst (λ (k : ℕ). 0 < k) (v.1 ∙ ap (λ (k : ℕ). k * down e) z ∙ zero-mul (down e)) (mul-pos (mul-pos (zero-lt-suc m) (up_pos e)) C)))
+value_zero nan s a c C z v = elim v [ ]
+value_zero (inf _) s a c C z v = elim v [ ]
 
 -- ---- the cases of the code, by the fields of x
 module _ (x : Float) (fit : T (fits binary32 x)) where

@@ -24,7 +24,7 @@ pub fn note_at(notes: &[u32], k: usize) -> Decoded
 
 // A note's first frame, its whole length, how many frames of it sound within the score, and its
 // grooved gain.
-#[derive(Drop)]
+#[derive(Clone, Copy)]
 pub struct Place {
     pub start: usize,
     pub len: usize,

@@ -3,7 +3,7 @@ use dsl::{Adsr, SeqVoice};
 use tempo::TempoMap;
 
 // The rate, and what says where notes stand. A tempo map with points takes the place of the tempo.
-#[derive(Drop)]
+#[derive(Clone, Copy)]
 pub struct Timing {
     pub rate: u32,
     pub tempo: f32,
@@ -15,7 +15,7 @@ pub struct Timing {
 
 // `Node::Seq` of the source, the rate, and the hop: a curve has a value each `hop` frames. The duty of a
 // score is a number.
-#[derive(Drop)]
+#[derive(Clone, Copy)]
 pub struct Seq {
     pub timing: Timing,
     pub hop: u32,
@@ -25,7 +25,7 @@ pub struct Seq {
 }
 
 // How long the lent buffers are: the output, the note buffer and the string buffer.
-#[derive(Drop)]
+#[derive(Clone, Copy)]
 pub struct Lent {
     pub n: usize,
     pub room: usize,

@@ -1,4 +1,6 @@
 // Whether the draws of a score pass what is left.
+#![tactic(auto)]
+
 ghost use Rattle.std.specs.Prelude.{◌≡◌, ◌/◌, ◌<◌, length, leb};
 ghost use Rattle.outcome.specs.declared.answer.Verdict.TheVariants.{Fine};
 ghost use Rattle.score.specs.Score.{score_of, note_in, note_draws, score_draws};
@@ -31,7 +33,7 @@ pub fn note_draws(seq: Seq, notes: &[u32], lane: &[f32], lent: Lent, k: usize) -
 }
 
 // A sum that may not be more than what is left.
-#[derive(Drop)]
+#[derive(Clone, Copy)]
 pub enum Sum {
     Over,
     Total(u64),

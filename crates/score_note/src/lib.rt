@@ -1,5 +1,8 @@
 // One note of a score, voiced and added to the frames.
+#![tactic(auto)]
+
 ghost use Rattle.std.specs.Prelude.{◌≡◌, ◌+◌, ◌≤◌, ◌<◌, length, drop};
+ghost use Rattle.rng.specs.SplitMix64.{state_after};
 ghost use Rattle.dsl.specs.Domain.{Rate, Frames};
 ghost use Rattle.dsl.specs.Pitch.{reading, pitch_at, reaches};
 ghost use Rattle.draws.specs.Draws.{draws_of};
@@ -12,7 +15,7 @@ use rng::Rng;
 use score::{Place, Seq};
 
 // A generator after some draws, and how many they were: a plain count, which nobody reads off the generator.
-#[derive(Drop)]
+#[derive(Clone, Copy)]
 pub struct Drawn {
     pub rng: Rng,
     pub draws: u64,
@@ -20,7 +23,7 @@ pub struct Drawn {
 
 // Voices a note into the note buffer and adds it to the frames from its start on; hands back the
 // generator after it, and the draws that it made. The voice reads the note's own gain, the mix the grooved one.
-pub fn sound_note(
+pub fn sound_counted(
     rng: Rng,
     seq: Seq,
     note: SeqNote,
@@ -67,4 +70,35 @@ pub fn sound_note(
         rng: after,
         draws: e as u64,
     }
+}
+
+// The same note; hands back the generator alone.
+pub fn sound_note(
+    rng: Rng,
+    seq: Seq,
+    note: SeqNote,
+    place: Place,
+    lane: &[f32],
+    out: &mut [f32],
+    note_buf: &mut [f32],
+    string: &mut [f32],
+) -> Rng
+    requires rate { Rate seq.timing.rate }
+    requires frames { Frames (length out.old) }
+    requires sounded_nonzero { 0 < place.sounded }
+    requires sounded_in_bounds { place.start + place.sounded ≤ length out.old }
+    requires frames_2 { Frames place.len }
+    requires reaches { reaches (reading note.pitch seq.hop) (length lane.now) place.sounded }
+    requires out_in_bounds { length out.old ≤ length note_buf.old }
+    requires in_bounds { 9600 ≤ length string.old }
+    ensures value { result.0 ≡ state_after rng.0
+        (draws_of seq.voice.wave seq.voice.kit seq.timing.rate (pitch_at (reading note.pitch seq.hop) lane.now 0) place.sounded) }
+    ensures out_after { out.new ≡ mixed_at place.start
+        (note_frames seq.timing.rate seq.voice note.gain (pitch_at (reading note.pitch seq.hop) lane.now) (λ _. seq.duty) rng.0 place.sounded)
+        seq.env place.len seq.timing.rate place.gain out.old }
+    ensures note_buf_unchanged { drop (length out.old) note_buf.new ≡ drop (length out.old) note_buf.old }
+    ensures string_unchanged { drop 9600 string.new ≡ drop 9600 string.old }
+{
+    let sounded = sound_counted(rng, seq, note, place, lane, out, note_buf, string);
+    sounded.rng
 }

@@ -63,6 +63,20 @@ module _ {s : Score} {g : ℕ} {buffer₀ string₀ : List Float} where
           string_kept = ks ∙ h.string_kept;
         }
 
+    -- the same where nobody counts: the draws are those before note k
+    pub playing_uncounted : Playing s g buffer₀ string₀ k r (draws_before s k) out buffer string
+    playing_uncounted = record {
+      within = h.within;
+      drawn = refl;
+      state = h.state;
+      frames = h.frames;
+      room = h.room;
+      buffered = h.buffered;
+      stringed = h.stringed;
+      buffer_kept = h.buffer_kept;
+      string_kept = h.string_kept;
+    }
+
     -- the draws with those of note k fit wherever those of all notes do
     pub playing_fits : k < note_count s → {p : Drawn} → p ≡ drawn_from r (note_draws s (note_in s k)) → score_draws s < 2 ^ 64 → d + p.draws < 2 ^ 64
     playing_fits lt {p} es fits =

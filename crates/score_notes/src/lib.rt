@@ -1,4 +1,8 @@
 // The notes of an accepted score, one after the other.
+#![tactic(auto)]
+
+mod played; // played.rt: the same notes, with no count of their draws
+
 ghost use Rattle.std.specs.Prelude.{◌≡◌, ◌/◌, ◌^◌, ◌<◌, length, drop};
 ghost use Rattle.outcome.specs.declared.answer.Verdict.TheVariants.{Fine};
 ghost use Rattle.score.specs.Score.{score_of, note_in, note_draws, score_draws};
@@ -7,12 +11,13 @@ ghost use Rattle.score_contract.specs.Frames.{with_note, score_frames};
 ghost use Rattle.score_note.specs.Drawn.{drawn_from};
 
 use dsl::Decoded;
+pub use played::play_notes;
 use rng::Rng;
 use score::{Lent, Seq};
 use score_note::Drawn;
 
 // Note k: nothing where it is skipped. The lent buffers are as long as `lent` says.
-fn play_note(
+pub(crate) fn play_note(
     rng: Rng,
     seq: Seq,
     notes: &[u32],
@@ -42,12 +47,12 @@ fn play_note(
     if place.start >= n {
         return Drawn { rng, draws: 0 };
     }
-    score_note::sound_note(rng, seq, note, place, lane, out, note_buf, string)
+    score_note::sound_counted(rng, seq, note, place, lane, out, note_buf, string)
 }
 
 // Fills the frames: plus zeros, and then each note in list order. Hands back the generator after all
 // of them, and the draws that they made in all.
-pub fn play_notes(
+pub fn play_counted(
     rng: Rng,
     seq: Seq,
     notes: &[u32],

@@ -7,14 +7,17 @@
 // The states of a session's eight generators are appended, or a call's number, its draws, the state of its
 // station's generator, the session's eight counts after it and the frames. The state is 0 where no call is
 // made or there is no such station.
+#![tactic(auto)]
+
 ghost use Rattle.std.specs.Prelude.{◌≤◌};
 
 use dsl::{Adsr, SeqVoice};
-use libc::STDIN_FILENO;
 use outcome::Outcome;
 use raw_knobs::{EnvAt, VoiceAt};
 use score::{Seq, Timing};
 use session::Session;
+use std::io;
+use std::io::{BufWriter, Write};
 use tempo::TempoMap;
 
 // How many values of a kind a line can have, and how many words of tempo points.
@@ -112,36 +115,39 @@ fn seq_of(line: &[u8], voice: SeqVoice, env: Adsr) -> Seq {
     }
 }
 
-fn print_outcome(outcome: Outcome) {
+fn print_outcome<W: Write>(writer: &mut W, outcome: Outcome) -> io::Result<()> {
     match outcome {
         Outcome::Played(draws) => {
-            vectors::print_u64(0);
-            vectors::print_u64(draws);
+            vectors::print_u64(writer, 0)?;
+            vectors::print_u64(writer, draws)?;
         }
         Outcome::Refused(refusal) => {
-            vectors::print_u64(refusal.number() as u64);
-            vectors::print_u64(0);
+            vectors::print_u64(writer, refusal.number() as u64)?;
+            vectors::print_u64(writer, 0)?;
         }
     }
+    Ok(())
 }
 
-fn print_counts(session: Session) {
+fn print_counts<W: Write>(writer: &mut W, session: Session) -> io::Result<()> {
     let counts = session.draws;
     let mut k = 0;
     while k < STATIONS {
-        vectors::print_u64(counts[k]);
+        vectors::print_u64(writer, counts[k])?;
         k += 1;
     }
+    Ok(())
 }
 
-fn print_frames(out: &[f32; 64], n: usize)
+fn print_frames<W: Write>(writer: &mut W, out: &[f32; 64], n: usize) -> io::Result<()>
     requires { n ≤ 64 }
 {
     let mut i = 0;
     while i < n {
-        vectors::print_f32(out[i]);
+        vectors::print_f32(writer, out[i])?;
         i += 1;
     }
+    Ok(())
 }
 
 // The frames before a call: ones, where a call without notes leaves zeros.
@@ -150,7 +156,14 @@ fn frames() -> [f32; 64] {
 }
 
 // The session after the call.
-fn call(line: &[u8], session: Session, seq: Seq, notes: &[u32], lane: &[f32]) -> Session {
+fn call<W: Write>(
+    writer: &mut W,
+    line: &[u8],
+    session: Session,
+    seq: Seq,
+    notes: &[u32],
+    lane: &[f32],
+) -> io::Result<Session> {
     let n = vectors::length_field(line, 8, 64);
     let note_len = vectors::length_field(line, 9, 80);
     let string_len = vectors::length_field(line, 10, 9616);
@@ -170,15 +183,15 @@ fn call(line: &[u8], session: Session, seq: Seq, notes: &[u32], lane: &[f32]) ->
     let outcome = answer.outcome;
     let rng = answer.rng;
     let after = answer.session;
-    print_outcome(outcome);
-    vectors::print_u64(rng.state());
-    print_counts(after);
-    print_frames(&out, n);
-    after
+    print_outcome(writer, outcome)?;
+    vectors::print_u64(writer, rng.state())?;
+    print_counts(writer, after)?;
+    print_frames(writer, &out, n)?;
+    Ok(after)
 }
 
 // The session after the call with the line's notes and lane, which follow knobs, drawbars and envelope.
-fn score(line: &[u8], session: Session, seq: Seq) -> Session {
+fn score<W: Write>(writer: &mut W, line: &[u8], session: Session, seq: Seq) -> io::Result<Session> {
     let word_count = vectors::length_field(line, 13, MOST);
     let lane_count = vectors::length_field(line, 14, MOST);
     let words_at = 20
@@ -188,6 +201,7 @@ fn score(line: &[u8], session: Session, seq: Seq) -> Session {
     let notes = words(line, words_at);
     let lane = floats(line, words_at + word_count);
     call(
+        writer,
         line,
         session,
         seq,
@@ -197,26 +211,26 @@ fn score(line: &[u8], session: Session, seq: Seq) -> Session {
 }
 
 // Where there is no such voice, envelope or list of points, no call is made and nothing changes.
-fn no_call(line: &[u8], session: Session) -> Session {
-    vectors::print_u64(u32::MAX as u64);
-    vectors::print_u64(DRAWS_BEFORE);
-    vectors::print_u64(0);
-    print_counts(session);
-    print_frames(&frames(), vectors::length_field(line, 8, 64));
-    session
+fn no_call<W: Write>(writer: &mut W, line: &[u8], session: Session) -> io::Result<Session> {
+    vectors::print_u64(writer, u32::MAX as u64)?;
+    vectors::print_u64(writer, DRAWS_BEFORE)?;
+    vectors::print_u64(writer, 0)?;
+    print_counts(writer, session)?;
+    print_frames(writer, &frames(), vectors::length_field(line, 8, 64))?;
+    Ok(session)
 }
 
-fn score_line(line: &[u8], session: Session) -> Session {
+fn score_line<W: Write>(writer: &mut W, line: &[u8], session: Session) -> io::Result<Session> {
     let VoiceAt::Voice(voice) = voice_of(line) else {
-        return no_call(line, session);
+        return no_call(writer, line, session);
     };
     let EnvAt::Env(env) = env_of(line) else {
-        return no_call(line, session);
+        return no_call(writer, line, session);
     };
     if vectors::u32_field(line, 15) % 4 != 0 {
-        return no_call(line, session);
+        return no_call(writer, line, session);
     }
-    score(line, session, seq_of(line, voice, env))
+    score(writer, line, session, seq_of(line, voice, env))
 }
 
 // Every second number of the eight pairs, from the pairs' field `from` on.
@@ -232,49 +246,53 @@ fn each_second(line: &[u8], from: usize) -> [u64; 8]
     out
 }
 
-fn print_states(session: Session) {
+fn print_states<W: Write>(writer: &mut W, session: Session) -> io::Result<()> {
     let mut k = 0;
     while k < STATIONS {
         let station = session.station(k);
         let rng = station.rng;
-        vectors::print_u64(rng.state());
+        vectors::print_u64(writer, rng.state())?;
         k += 1;
     }
+    Ok(())
 }
 
-fn open(line: &[u8]) -> Session {
+fn open<W: Write>(writer: &mut W, line: &[u8]) -> io::Result<Session> {
     let session = Session {
         seeds: each_second(line, 1),
         draws: each_second(line, 2),
     };
-    print_states(session);
-    session
+    print_states(writer, session)?;
+    Ok(session)
 }
 
-fn replay_line(line: &[u8], session: Session) -> Session {
-    vectors::print_text(line);
+fn replay_line<W: Write>(writer: &mut W, line: &[u8], session: Session) -> io::Result<Session> {
+    vectors::print_text(writer, line)?;
     if vectors::is_named(line, b"open") {
-        return open(line);
+        return open(writer, line);
     }
-    score_line(line, session)
+    score_line(writer, line, session)
 }
 
-fn replay(text: &[u8]) {
+fn replay<W: Write>(writer: &mut W, text: &[u8]) -> io::Result<()> {
     let mut session = Session::open(0, 0);
     let mut at = 0;
     while at < text.len() {
         let end = vectors::line_end(text, at);
-        session = replay_line(&text[at..end], session);
-        vectors::print_text(b"\n");
+        session = replay_line(writer, &text[at..end], session)?;
+        vectors::print_text(writer, b"\n")?;
         if end == text.len() {
-            return;
+            return Ok(());
         }
         at = end + 1;
     }
+    Ok(())
 }
 
-fn main() {
+fn main(rt: HostRuntime) -> io::Result<()> {
     let mut text = vectors::input_buffer();
-    let n = io::read_full(STDIN_FILENO, &mut text);
-    replay(&text[..n]);
+    let n = vectors::read_full(&mut rt.stdin(), &mut text)?;
+    let mut writer = BufWriter::new(rt.alloc(), rt.stdout())?;
+    replay(&mut writer, &text[..n])?;
+    writer.flush()
 }

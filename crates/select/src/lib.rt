@@ -1,5 +1,7 @@
 // Choices and tests without a branch, for the passes over a block: both ways of a choice are worked out, and no test is
 // jumped over.
+#![tactic(auto)]
+
 ghost use Rattle.std.specs.Prelude.{◌≡◌, cond, true, ◌≤◌};
 ghost use Rattle.std.specs.Float.Ieee.{lt};
 

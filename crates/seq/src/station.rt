@@ -3,7 +3,7 @@ ghost use Rattle.score_contract.specs.ScoreCall.{Scored};
 
 use outcome::{Outcome, Refusal, Verdict};
 use score::{Lent, Seq};
-use score_notes::play_notes;
+use score_notes::play_counted;
 use session::{Station, StationAnswer};
 
 // Fills `out` with a score, and answers how many draws it made and the station after them: its generator as the
@@ -49,7 +49,7 @@ pub(crate) fn render_station(
         };
     }
     let from = station.rng;
-    let played = play_notes(from, seq, notes, lane, lent, out, note_buf, string);
+    let played = play_counted(from, seq, notes, lane, lent, out, note_buf, string);
     let rng = played.rng;
     let d = played.draws;
     let count = draw + d;

@@ -9,7 +9,7 @@ use rng::Rng;
 
 // The seeds and the draw counts of the stations 0 to 7: what a lab cites. A station's generator is its seed, set at
 // its count.
-#[derive(Drop)]
+#[derive(Clone, Copy)]
 pub struct Session {
     pub seeds: [u64; 8],
     pub draws: [u64; 8],
@@ -82,7 +82,7 @@ impl Session {
 }
 
 // A station of a session, or none where the number is above 7.
-#[derive(Drop)]
+#[derive(Clone, Copy)]
 pub enum Named {
     One(Station),
     NoStation,
@@ -90,7 +90,7 @@ pub enum Named {
 
 // What a score call answers: the session after it, the generator of its station, as playing left it, and the draws
 // made or why nothing was done. Where there is no such station the generator is that of the state 0.
-#[derive(Drop)]
+#[derive(Clone, Copy)]
 pub struct Answer {
     pub session: Session,
     pub rng: Rng,

@@ -6,7 +6,7 @@ use outcome::Outcome;
 use rng::Rng;
 
 // A station's generator, and how many draws were made of it.
-#[derive(Drop)]
+#[derive(Clone, Copy)]
 pub struct Station {
     pub rng: Rng,
     pub draw: u64,
@@ -23,7 +23,7 @@ impl Station {
 }
 
 // What a score call on a station answers: the station after it, and the draws made or why nothing was done.
-#[derive(Drop)]
+#[derive(Clone, Copy)]
 pub struct StationAnswer {
     pub station: Station,
     pub outcome: Outcome,

@@ -18,7 +18,7 @@ use Rattle.ieee.proofs.Fields.{fields_top, fields_mid}
 use Rattle.ieee.proofs.Bounded.{Beyond, value_beyond, exact_dyadic}
 use Rattle.rounding.proofs.Normal.{sign_magnitude}
 use Rattle.sin_block.specs.Sizes.{d4}
-use Rattle.sin_block.proofs.Sure.{square_below}
+use Rattle.sin_block.proofs.SureBelow.{square_below}
 use Rattle.sin_block.proofs.Signed.{times_one, narrow_signed, as_fields, split, narrow_fits, narrow_number, signed_number}
 
 -- ---- what is below 2 by its square is so by its pattern

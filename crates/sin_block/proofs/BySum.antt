@@ -19,7 +19,7 @@ use Rattle.ieee.proofs.Sums.{neg_value}
 use Rattle.ieee.proofs.Rounding.{Cmp, cmp, compare_lt, compare_eq, compare_gt}
 use Rattle.ieee.proofs.Quotients.{closest_add, closest_below}
 use Rattle.float.proofs.Wholes.{top_value}
-use Rattle.sin_block.specs.Whole.{d1·5·2^52, nearest_by_sum}
+use Rattle.sin_block.specs.OneSum.{d1·5·2^52, nearest_by_one_sum}
 
 -- ---- a quotient taken from an even number: the nearest is taken from it too
 -- by quotient and rest
@@ -199,8 +199,8 @@ module _ (s : Bool) (n : ℕ) (e : ℤ) (small : n * up e < G * down e) where
   sum_value =
       subst (λ (y : Float). HasValue y false (cond s (K - k) (k + K)) 1) (sym (add_value binary64 t d1·5·2^52 s false A C K 1 (down_pos e) (zero-lt-suc 0) t_value constant)) (added s)
 
-  pub by_sum_value : HasValue (nearest_by_sum t) (s && ltb 0 k) k 1
-  unfolding nearest_by_sum sub
+  pub by_sum_value : HasValue (nearest_by_one_sum t) (s && ltb 0 k) k 1
+  unfolding nearest_by_one_sum sub
   by_sum_value =
       subst (λ (y : Float). HasValue y (s && ltb 0 k) k 1)
       (sym (add_value binary64 (add binary64 t d1·5·2^52) (neg d1·5·2^52) false true (cond s (K - k) (k + K)) 1 K 1 (zero-lt-suc 0) (zero-lt-suc 0) sum_value

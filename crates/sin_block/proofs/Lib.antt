@@ -1,10 +1,12 @@
 mod BySum
-mod Sure
+mod SureBelow
 mod Zeros
-mod Quarters
+mod OneSumQuarters
 mod Narrow
 mod Signed
 mod Units
 mod Below
 mod Composed
+mod OneSumWholes
 mod Wholes
+mod Quarters

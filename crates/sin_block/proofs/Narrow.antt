@@ -33,6 +33,8 @@ narrow_at : (x : Float) (s : Bool) (a c : ℕ) → 0 < c → HasValue x s a c �
 unfolding narrow_of
 narrow_at (fin t m e) s a c C v =
     (λ i. round binary32 (v.0 i) (m * up e) (down e)) ∙ round_same binary32 s (m * up e) (down e) a c (down_pos e) C v.1
+narrow_at lib.Ieee.nan s a c C v = elim v [ ]
+narrow_at (lib.Ieee.inf _) s a c C v = elim v [ ]
 
 -- ---- powers, as variables
 shift : (p j d L M c : ℕ) → d + L ≡ M → 2 ^ (p + (j + d)) * (c * 2 ^ L) ≡ 2 ^ (p + j) * c * 2 ^ M

@@ -1,29 +1,19 @@
--- The whole number nearest to a t of either sign, by a sum with 1.5 * 2^52.
-use Rattle.std.specs.Prelude.{◌≡◌, true, Float}
-use Rattle.std.specs.Float.{binary64}
-use Rattle.std.specs.Float.Ieee.{of_bits, lt}
-use Rattle.ieee.specs.Binary64.{◌⊞◌, ◌⊟◌, ◌⊠◌}
+-- The whole number nearest to any t that is not too large, by a sum with 2^52.
+use Rattle.std.specs.Prelude.{◌≡◌, true, cond, Float}
+use Rattle.std.specs.Float.Ieee.{neg, lt}
+use Rattle.ieee.specs.Binary64.{◌⊞◌, ◌⊟◌}
+use Rattle.ieee.specs.Numbers64.{d0, d0·5, d2^52}
+use Rattle.sin_block.specs.Nearest.{magnitude}
 
--- 6755399441055744.0
-abbrev pub d1·5·2^52 : Float
-d1·5·2^52 = of_bits binary64 0x4338_0000_0000_0000
+unfoldable pub summed_of : Float → Float
+summed_of a = a ⊞ d2^52 ⊟ d2^52
 
--- 0.25
-abbrev pub d0·25 : Float
-d0·25 = of_bits binary64 0x3fd0_0000_0000_0000
+-- an a above 0 and below 2^52, and no half that the sum takes down to an even number
+pub record Sure (a : Float) : Type 0 where
+  pub positive : lt d0 a ≡ true
+  pub below : lt a d2^52 ≡ true
+  pub near : lt a (summed_of a ⊞ d0·5) ≡ true
 
--- 2^100
-abbrev pub d2^100 : Float
-d2^100 = of_bits binary64 0x4630_0000_0000_0000
-
--- 6.25
-abbrev pub d6·25 : Float
-d6·25 = of_bits binary64 0x4019_0000_0000_0000
-
+-- of a t with such a magnitude
 unfoldable pub nearest_by_sum : Float → Float
-nearest_by_sum t = t ⊞ d1·5·2^52 ⊟ d1·5·2^52
-
--- a t whose square is below the limit, and that is less than a half from that number
-pub record Sure (limit t : Float) : Type 0 where
-  pub below : lt (t ⊠ t) limit ≡ true
-  pub near : lt ((t ⊟ nearest_by_sum t) ⊠ (t ⊟ nearest_by_sum t)) d0·25 ≡ true
+nearest_by_sum t = cond (lt d0 t) (summed_of (magnitude t)) (neg (summed_of (magnitude t)))

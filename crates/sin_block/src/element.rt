@@ -7,7 +7,7 @@ ghost use Rattle.ieee.specs.Narrow.{narrow_of};
 ghost use Rattle.ieee.specs.Binary64.{◌⊟◌, ◌⊠◌};
 ghost use Rattle.trig.specs.Trig.{FRAC·PI·2, reduce2pi, sin_reduced};
 ghost use Rattle.sin_block.specs.Sizes.{d4};
-ghost use Rattle.sin_block.specs.Whole.{nearest_by_sum, Sure};
+ghost use Rattle.sin_block.specs.OneSum.{nearest_by_one_sum, SureBelow};
 ghost use Rattle.sin_block.specs.Quarter.{poly_at, sine_at};
 
 use select::{not_below, pick};
@@ -22,13 +22,13 @@ const MOST: f64 = 1267650600228229401496703205376.0; // 2^100, 4630000000000000
 
 const LEAST: f64 = 6.310887241768095e-30; // 2^-97, which is 2^29 times the smallest normal f32, 39e0000000000000
 
-#[derive(Drop)]
+#[derive(Clone, Copy)]
 pub struct Tried {
     pub value: f64,
     pub bad: u64,
 }
 
-#[derive(Drop)]
+#[derive(Clone, Copy)]
 pub struct Narrowed {
     pub value: f32,
     pub bad: u64,
@@ -36,14 +36,14 @@ pub struct Narrowed {
 
 // The whole number nearest to t: a sum with 1.5 * 2^52 has no digits after the point, whatever the sign.
 fn whole(t: f64) -> f64
-    ensures { result ≡ nearest_by_sum t }
+    ensures { result ≡ nearest_by_one_sum t }
 {
     (t + WHOLE) - WHOLE
 }
 
 // 0 where the square of t is below the limit and t is no half, which the sum may take down, and nowhere else.
 fn unsure(t: f64, limit: f64) -> u64
-    ensures { (result ≤ 2) × (result ≡ 0 → Sure limit t) × (Sure limit t → result ≡ 0) }
+    ensures { (result ≤ 2) × (result ≡ 0 → SureBelow limit t) × (SureBelow limit t → result ≡ 0) }
 {
     let d = t - whole(t);
     not_below(t * t, limit) + not_below(d * d, 0.25)

@@ -1,34 +1,35 @@
 // SplitMix64's published vectors: the first five draws of seed 1234567 in decimal and of seed 0 in
 // hexadecimal, one a line.
-use libc::STDOUT_FILENO;
+#![tactic(auto)]
+
 use rng::Rng;
+use std::io;
 
-fn print_decimal_draw(rng: Rng) -> Rng {
+fn print_decimal_draw(rt: &impl Print, rng: Rng) -> io::Result<Rng> {
     let draw = rng.next_u64();
-    io::print_decimal(STDOUT_FILENO, draw.value);
-    io::write_all(STDOUT_FILENO, b"\n");
+    println!(rt; "{}", draw.value)?;
     let after = draw.rng;
-    after
+    Ok(after)
 }
 
-fn print_hex_draw(rng: Rng) -> Rng {
+fn print_hex_draw(rt: &impl Print, rng: Rng) -> io::Result<Rng> {
     let draw = rng.next_u64();
-    io::print_hex(STDOUT_FILENO, draw.value, 16);
-    io::write_all(STDOUT_FILENO, b"\n");
+    println!(rt; "{:016x}", draw.value)?;
     let after = draw.rng;
-    after
+    Ok(after)
 }
 
-fn main() {
-    let a = print_decimal_draw(Rng::new(1234567));
-    let b = print_decimal_draw(a);
-    let c = print_decimal_draw(b);
-    let d = print_decimal_draw(c);
-    print_decimal_draw(d);
+fn main(rt: HostRuntime) -> io::Result<()> {
+    let a = print_decimal_draw(&rt, Rng::new(1234567))?;
+    let b = print_decimal_draw(&rt, a)?;
+    let c = print_decimal_draw(&rt, b)?;
+    let d = print_decimal_draw(&rt, c)?;
+    print_decimal_draw(&rt, d)?;
 
-    let e = print_hex_draw(Rng::new(0));
-    let f = print_hex_draw(e);
-    let g = print_hex_draw(f);
-    let h = print_hex_draw(g);
-    print_hex_draw(h);
+    let e = print_hex_draw(&rt, Rng::new(0))?;
+    let f = print_hex_draw(&rt, e)?;
+    let g = print_hex_draw(&rt, f)?;
+    let h = print_hex_draw(&rt, g)?;
+    print_hex_draw(&rt, h)?;
+    Ok(())
 }

@@ -274,6 +274,8 @@ module _ (seed : ℕ) where
         answers = λ j. head j ∷ tails j;
         ends = ap (λ (x : ℕ). (tally seed x ss).end) here ∙ later.ends ∙ ap (λ (x : ℕ). (tally seed x ss').end) (sym there);
       }
+  both d [] (s' ∷ ss') x'' = elim x'' [ ]
+  both d (s ∷ ss) [] x3 = elim x3 [ ]
 
 -- THE THEOREM, which a paper cites: of two lists of score calls, on stations opened with one seed at one draw, that differ in nothing but knobs, drawbars, duty, gains and
 -- envelopes, all sized, each call is refused with the same number or accepted in both; each note starts from the same draw and state, and draws the same; and both stations end alike.

@@ -5,14 +5,14 @@ ghost use Rattle.tempo.specs.Map.{points, no_map};
 use beat::Beat;
 
 // From `at` until the next point, the tempo is `bpm` beats per minute.
-#[derive(Drop)]
+#[derive(Clone, Copy)]
 pub struct TempoPoint {
     pub at: Beat,
     pub bpm: f32,
 }
 
 // Up to 64 points, of which the first `count` are looked at. With none the tempo is the score's own.
-#[derive(Drop)]
+#[derive(Clone, Copy)]
 pub struct TempoMap {
     pub points: [TempoPoint; 64],
     pub count: u32,

@@ -6,7 +6,7 @@ ghost use Rattle.tempo.specs.Map.{points, floored, past, begun, seconds_from, wa
 use crate::map::{TempoMap, TempoPoint};
 
 // Where a walk stands: the next point, and of the last one that it passed the seconds, the beat and the tempo.
-#[derive(Drop)]
+#[derive(Clone, Copy)]
 pub struct Walk {
     pub next: usize,
     pub secs: f64,
@@ -134,7 +134,7 @@ fn walk_both(map: TempoMap, from: f64, to: f64) -> Walk
 }
 
 // The tempo at a beat, and the seconds there and at a second beat.
-#[derive(Drop)]
+#[derive(Clone, Copy)]
 pub struct Span {
     pub bpm: f64,
     pub start: f64,

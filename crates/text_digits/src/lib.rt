@@ -1,17 +1,19 @@
 // Bytes and numbers of a text score, each read at a place.
+#![tactic(auto)]
+
 ghost use Rattle.std.specs.Prelude.{◌≡◌, ◌≤◌, drop};
 ghost use Rattle.text_digits.specs.Read.{digit_of, byte, hex, decimal};
 ghost use Rattle.text_digits.specs.Answers.{place_in, value_in};
 
 // The place after what was asked for.
-#[derive(Drop)]
+#[derive(Clone, Copy)]
 pub enum Place {
     At(usize),
     Broken,
 }
 
 // A number and the place after it.
-#[derive(Drop)]
+#[derive(Clone, Copy)]
 pub enum Number {
     At(u64, usize),
     Broken,

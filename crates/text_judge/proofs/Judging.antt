@@ -15,7 +15,7 @@ use Rattle.text_judge.specs.Refusal.{text_refusal}
 use Rattle.text_judge.specs.Judged.{judged_read, judged, words_left, Judges}
 use Rattle.text_judge.specs.declared.judge.Judged.TheVariants.{Score, Refused}
 use Rattle.text_judge.proofs.Refused.{refusal_long}
-use Rattle.text_judge.proofs.Judged.{judged_broken, judged_frames, judged_notes, judged_none}
+use Rattle.text_judge.proofs.JudgedText.{judged_broken, judged_frames, judged_notes, judged_none}
 use Rattle.text_judge.proofs.Unless.{number_refuses}
 
 module _ (text words₀ : List ℕ) where

@@ -1,5 +1,5 @@
 pub mod Refused
-mod Judged
+mod JudgedText
 pub mod Unless
 pub mod Past
 mod Judging

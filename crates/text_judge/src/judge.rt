@@ -4,7 +4,7 @@ ghost use Rattle.text_judge.specs.Judged.{Judges};
 use text_read::{Parsed, TextScore};
 
 // What a text says, whose notes' words stand in a lent slice; or the number that refuses it.
-#[derive(Drop)]
+#[derive(Clone, Copy)]
 pub enum Judged {
     Score(TextScore),
     Refused(u32),

@@ -1,5 +1,7 @@
 // Fields and lines of a text score, and its lines S, G and E. Each function reads one form at a place
 // and answers what stands there and the place after it, or that the bytes are not of the form.
+#![tactic(auto)]
+
 ghost use Rattle.std.specs.Prelude.{◌≡◌, ◌≤◌, length, take, drop};
 ghost use Rattle.text_lines.specs.Line.{value, field, fields, ending, line, leading, stored_in, leading_line, float_at, line_s, seed_field, draw_field, line_g, line_e};
 ghost use Rattle.text_digits.specs.Answers.{place_in, value_in};
@@ -87,7 +89,7 @@ pub fn float_at(bits: &[u32], i: usize) -> f32
 }
 
 // The numbers of a line S.
-#[derive(Drop)]
+#[derive(Clone, Copy)]
 pub struct Numbers {
     pub rate: u32,
     pub n: u32,
@@ -97,7 +99,7 @@ pub struct Numbers {
     pub humanize: f32,
 }
 
-#[derive(Drop)]
+#[derive(Clone, Copy)]
 pub enum LineS {
     At(Numbers, usize),
     Broken,
@@ -123,13 +125,13 @@ pub fn line_s(s: &[u8], at: usize) -> LineS
 }
 
 // What opens the session: a line G.
-#[derive(Drop)]
+#[derive(Clone, Copy)]
 pub struct Opening {
     pub seed: u64,
     pub draw: u64,
 }
 
-#[derive(Drop)]
+#[derive(Clone, Copy)]
 pub enum LineG {
     At(Opening, usize),
     Broken,
@@ -172,7 +174,7 @@ pub fn line_g(s: &[u8], at: usize) -> LineG
     LineG::At(opening, next)
 }
 
-#[derive(Drop)]
+#[derive(Clone, Copy)]
 pub enum LineE {
     At(Adsr, usize),
     Broken,

@@ -1,5 +1,7 @@
 // What a score prints. Each function prints into a lent slice from a place on and answers the place
 // after it; all other bytes stay.
+#![tactic(auto)]
+
 mod digits; // digits.rt: bytes and numbers
 mod lengths; // lengths.rt: how long they are
 mod lines; // lines.rt: the lines G, F and R, and the listing

@@ -11,7 +11,7 @@ use session::Session;
 use text_read::TextScore;
 
 // What a text score says, whose words stand in a lent slice, with its total of draws; or the number of what refuses it.
-#[derive(Drop)]
+#[derive(Clone, Copy)]
 pub enum TextPlan {
     Planned(TextScore, u64),
     Refused(u32),

@@ -7,7 +7,7 @@ use text_digits::Place;
 use text_lines::{FLOAT, WORD, line};
 
 // Step, len, the bits of pitch and gain, and the place after the line.
-#[derive(Drop)]
+#[derive(Clone, Copy)]
 enum LineN {
     At(u32, u32, u32, u32, usize),
     Broken,
@@ -42,7 +42,7 @@ fn store_note(words: &mut [u32], n: usize, step: u32, len: u32, pitch: u32, gain
 }
 
 // How many lines there are.
-#[derive(Drop)]
+#[derive(Clone, Copy)]
 pub(crate) enum Count {
     Lines(usize),
     Broken,

@@ -10,7 +10,7 @@ use text_lines::{LineE, LineG, LineS, Numbers, line_e, line_g, line_s};
 use text_voice_line::{LineV, Sound, line_v};
 
 // What the lines S, G, E and V say, and how many notes there are, whose words stand in a lent slice.
-#[derive(Drop)]
+#[derive(Clone, Copy)]
 pub struct TextScore {
     pub numbers: Numbers,
     pub env: Adsr,
@@ -47,7 +47,7 @@ impl TextScore {
     }
 }
 
-#[derive(Drop)]
+#[derive(Clone, Copy)]
 pub enum Parsed {
     Score(TextScore),
     Broken,

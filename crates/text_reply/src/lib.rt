@@ -1,4 +1,6 @@
 // The reply of a text call: a listing, printed where it fits, and the number that C gets of it.
+#![tactic(auto)]
+
 mod answer; // answer.rt: a score call's answer, printed
 mod reply; // reply.rt: the listing's length, or that it did not fit
 

@@ -3,7 +3,7 @@ ghost use Rattle.std.specs.Prelude.{◌≡◌, ◌^◌, ◌<◌};
 ghost use Rattle.text_reply.specs.Reply.{length_in, return_of};
 
 // The listing's length, or that the reply is shorter than the listing.
-#[derive(Drop)]
+#[derive(Clone, Copy)]
 pub enum Reply {
     Listing(usize),
     Short,

@@ -1,4 +1,6 @@
 // The cue sheet of a text score.
+#![tactic(auto)]
+
 mod call; // call.rt: the call on a text
 mod sheet; // sheet.rt: the sheet of what a text says
 

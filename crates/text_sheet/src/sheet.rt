@@ -12,7 +12,7 @@ use score::Lent;
 use text_read::TextScore;
 
 // The sheet's length in bytes, or the number of what refused it.
-#[derive(Drop)]
+#[derive(Clone, Copy)]
 pub enum Sheet {
     Bytes(usize),
     Refused(u32),

@@ -1,4 +1,6 @@
 // The line V of a text score: a wave with its knobs, drawbars or style, and the duty.
+#![tactic(auto)]
+
 ghost use Rattle.std.specs.Prelude.{◌≡◌, drop};
 ghost use Rattle.dsl.specs.Sets.{fm_by, pluck_by, piano_by, bass_by};
 ghost use Rattle.dsl.specs.declared.wave.WaveAt.TheVariants.{Wave};
@@ -140,7 +142,7 @@ fn bars_of(bits: &[u32]) -> Drawbars
     }
 }
 
-#[derive(Drop)]
+#[derive(Clone, Copy)]
 pub enum StyleField {
     At(KitStyle, usize),
     Broken,
@@ -208,13 +210,13 @@ fn voice_of(place: u32, wave: SeqWave, style: KitStyle, bits: &[u32]) -> SeqVoic
     voice_with(wave, style, none, none, none, none, none)
 }
 
-#[derive(Drop)]
+#[derive(Clone, Copy)]
 pub struct Sound {
     pub voice: SeqVoice,
     pub duty: f32,
 }
 
-#[derive(Drop)]
+#[derive(Clone, Copy)]
 pub enum LineV {
     At(Sound, usize),
     Broken,

@@ -8,7 +8,7 @@ use crate::bits::{bits_buffer, put_bits};
 use wave_write::Written;
 
 // The file's length, or the number of what refused it.
-#[derive(Drop)]
+#[derive(Clone, Copy)]
 pub enum TextWave {
     Bytes(usize),
     Refused(u32),

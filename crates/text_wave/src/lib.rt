@@ -1,4 +1,6 @@
 // The WAVE file of a text score.
+#![tactic(auto)]
+
 mod bits; // bits.rt: the frames' bit patterns
 mod call; // call.rt: the call on a text
 mod frames; // frames.rt: frames as a file

@@ -1,5 +1,7 @@
 // The calls on text scores that play nothing, as C has them: a number that is 0, a length or minus a refusal's number.
 // `tono` exports them.
+#![tactic(auto)]
+
 ghost use Rattle.tono_text.specs.CueSheet.{SheetReturned};
 ghost use Rattle.tono_text.specs.Planned.{PlanReturned};
 

@@ -1,5 +1,7 @@
 // The calls on WAVE files as C has them: a number that is a length, a count or minus a refusal's number.
 // `tono` exports them.
+#![tactic(auto)]
+
 ghost use Rattle.tono_wave.specs.Wave.{WriteReturned, ReadReturned};
 
 use wave_read::WaveRead;

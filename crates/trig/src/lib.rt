@@ -2,6 +2,8 @@
 // the same everywhere, and f32 wrappers that narrow once. Every function has an answer for every bit
 // pattern. Each contract is one equation with a definition of specs/, which has the operations of
 // det.rs in the order written. The other kernels are in the crate `det`.
+#![tactic(auto)]
+
 mod sine; // sine.rt: sin, cos
 mod single; // single.rt: the f32 wrappers
 

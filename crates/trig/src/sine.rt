@@ -40,7 +40,7 @@ const C5: f64 = 2.08757232129817482790e-09; // 3e21ee9ebdb4b1c4
 
 const C6: f64 = -1.13596475577881948265e-11; // bda8fae9be8838d4
 
-// sin(x) on [-π/4, π/4]: x + typeof.x³.S(x²).
+// sin(x) on [-π/4, π/4]: x + x³·S(x²).
 pub fn sin_poly(x: f64) -> f64
     ensures { result ≡ sin_poly x }
 {
@@ -48,7 +48,7 @@ pub fn sin_poly(x: f64) -> f64
     x + x * z * (S1 + z * (S2 + z * (S3 + z * (S4 + z * (S5 + z * S6)))))
 }
 
-// cos(x) on [-π/4, π/4]: 1 − x²/2 + typeof.x⁴.C(x²).
+// cos(x) on [-π/4, π/4]: 1 − x²/2 + x⁴·C(x²).
 pub fn cos_poly(x: f64) -> f64
     ensures { result ≡ cos_poly x }
 {

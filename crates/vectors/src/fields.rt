@@ -1,12 +1,29 @@
 // Lines, fields and numbers of a text.
-ghost use Rattle.std.specs.Prelude.{◌≤◌, length};
+ghost use Rattle.std.specs.Prelude.{◌≡◌, ◌≢◌, ◌<◌, ◌≤◌, ℕ, length, slice_index};
+
+// The first place of `byte` from `at` on; the text's length where there is none.
+fn find(text: &[u8], at: usize, byte: u8) -> usize
+    requires { at ≤ length text.now }
+    ensures within { (at ≤ result) × (result ≤ length text.now) }
+    ensures before { (k : ℕ) → at ≤ k → k < result → slice_index text.now k ≢ byte }
+    ensures found { result < length text.now → slice_index text.now result ≡ byte }
+{
+    let mut place = at;
+    while place < text.len() {
+        if text[place] == byte {
+            return place;
+        }
+        place += 1;
+    }
+    place
+}
 
 // The place of the newline that ends the line at `at`; the text's length where there is none.
 pub fn line_end(text: &[u8], at: usize) -> usize
     requires { at ≤ length text.now }
     ensures { (at ≤ result) × (result ≤ length text.now) }
 {
-    bytes::scan::find(text, at, text.len(), b'\n')
+    find(text, at, b'\n')
 }
 
 // The place where field k starts; the line's length where it has fewer fields.
@@ -30,13 +47,13 @@ fn field_start(line: &[u8], k: usize) -> usize
 // Field k, counted from 0; empty where the line has fewer fields.
 fn field(line: &[u8], k: usize) -> &[u8] {
     let start = field_start(line, k);
-    let end = bytes::scan::find(line, start, line.len(), b' ');
+    let end = find(line, start, b' ');
     &line[start..end]
 }
 
 // Whether the first field is `name`.
 pub fn is_named(line: &[u8], name: &[u8]) -> bool {
-    check::same(field(line, 0), name)
+    field(line, 0) == name
 }
 
 // The value of a hexadecimal digit, 16 where the byte is none.

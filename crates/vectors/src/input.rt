@@ -1,4 +1,4 @@
-// Where a long text is read to.
+// Where a text is read to.
 ghost use Rattle.std.specs.Prelude.{◌≡◌, length};
 
 // 512 KiB. The contract says only how long it is, since nothing that it first holds is ever read: a
@@ -7,4 +7,11 @@ pub fn input_buffer() -> [u8; 524288]
     ensures { 524288 ≡ length result }
 {
     [0u8; 524288]
+}
+
+// 64 KiB, for a short text.
+pub fn short_buffer() -> [u8; 65536]
+    ensures { 65536 ≡ length result }
+{
+    [0u8; 65536]
 }

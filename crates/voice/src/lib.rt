@@ -1,5 +1,7 @@
 // `seq_note_signal` of render/seq.rs below its refusals: the samples of a note before its envelope, by
 // the voice that its wave picks.
+#![tactic(auto)]
+
 ghost use Rattle.std.specs.Prelude.{◌≡◌, ◌<◌, ◌≤◌, length, drop};
 ghost use Rattle.dsl.specs.Domain.{Rate, Frames};
 ghost use Rattle.dsl.specs.Pitch.{pitch_at, reaches};

@@ -2,6 +2,8 @@
 // in a louder note, with a pick's click and the grit of some drive, over a sine sub, which a ratio can put an octave
 // down. Each number is a knob; nothing is drawn, so that the click is the same in every note. It goes by blocks of up
 // to 64 frames: the filter's openings and the fades first, then the frames in order.
+#![tactic(auto)]
+
 ghost use Rattle.std.specs.Prelude.{◌≡◌, ◌+◌, ◌-◌, ◌≤◌, length, get_or};
 ghost use Rattle.std.specs.Float.{nan};
 ghost use Rattle.blocks.proofs.Carried.{Carried};
@@ -13,14 +15,14 @@ ghost use Rattle.voice_bass.specs.Block.{bass_by};
 use dsl::{BassKnobs, Reading};
 
 // The phases of the saw and of the sub, and the filter's memory.
-#[derive(Drop)]
+#[derive(Clone, Copy)]
 struct BassState {
     phase: f32,
     sub_phase: f32,
     lp: f32,
 }
 
-#[derive(Drop)]
+#[derive(Clone, Copy)]
 struct BassOut {
     sample: f32,
     state: BassState,

@@ -16,7 +16,7 @@ use Rattle.ieee.specs.Order.{max_of}
 use Rattle.dsp.specs.Kernels.{TAU, sin_of}
 use Rattle.frame_block.specs.Decay.{decay_at}
 use Rattle.voice_bell.specs.Bell.{c1·5, bell_partial, bell_sum, bell_at}
-use Rattle.voice_bell.specs.Block.{bell_reached, bell_turns, bell_mix}
+use Rattle.voice_bell.specs.Block.{bell_reached, bell_turns, bell_mix, bell_mix_at}
 use Rattle.voice_bell.specs.declared.BellState.{BellState}
 
 -- no decay is below a millisecond
@@ -53,8 +53,8 @@ module _ (fi srf : Float) (i : ℕ) (z : BellState) (s e0 e1 e2 e3 e4 : List Flo
       get_or e2 k nan ≡ decay_at srf c0·8 i →
       get_or e3 k nan ≡ decay_at srf c0·4 i →
       get_or e4 k nan ≡ decay_at srf c0·25 i →
-      bell_mix s e0 e1 e2 e3 e4 k ≡ (bell_at fi srf i z).sample
-  unfolding bell_mix bell_at bell_sum bell_partial
+      bell_mix_at s e0 e1 e2 e3 e4 k ≡ (bell_at fi srf i z).sample
+  unfolding bell_mix bell_mix_at bell_at bell_sum bell_partial
   bell_sample a b c d e f g h j l m = rw (a, b, c, d, e, f, g, h, j, l, m, max_0, max_1, max_2, max_3, max_4)
 
 -- the frames from `from` on and before `end`
@@ -70,17 +70,17 @@ module _ (f : ℕ → Float) (srf : Float) (from end : ℕ) (start : BellState) 
       Tabled (decay_at srf c0·25) nan from end e4 →
       from ≤ end →
       end ≤ length out₀ →
-      out ≡ stored (bell_mix s e0 e1 e2 e3 e4) from (end - from) out₀ →
+      out ≡ stored (bell_mix_at s e0 e1 e2 e3 e4) from (end - from) out₀ →
       r ≡ bell_reached f srf from start (end - from) →
       Carried (λ i. bell_at (f i) srf i) (λ o. o.sample) (λ o. o.state) from end out₀ start out r
   unfolding bell_at
   bell_carried {s = s} {e0 = e0} {e1 = e1} {e2 = e2} {e3 = e3} {e4 = e4} rows sines d0 d1 d2 d3 d4 le room e g =
-      carried_part (λ i. bell_at (f i) srf i) (λ o. o.sample) (λ o. o.state) from start (bell_mix s e0 e1 e2 e3 e4) end le room right e g
+      carried_part (λ i. bell_at (f i) srf i) (λ o. o.sample) (λ o. o.state) from start (bell_mix_at s e0 e1 e2 e3 e4) end le room right e g
     where
       sine : (k j : ℕ) → k < end - from → j < 6 → get_or s (k * 6 + j) nan ≡ sinf_of (get_or (bell_turns (bell_reached f srf from start k)) j nan)
       sine k j h l = rows_through sinf_of rows sines k j h l
 
-      right : (k : ℕ) → k < end - from → bell_mix s e0 e1 e2 e3 e4 k ≡ (bell_at (f (from + k)) srf (from + k) (bell_reached f srf from start k)).sample
+      right : (k : ℕ) → k < end - from → bell_mix_at s e0 e1 e2 e3 e4 k ≡ (bell_at (f (from + k)) srf (from + k) (bell_reached f srf from start k)).sample
       right k h =
           bell_sample (f (from + k)) srf (from + k) (bell_reached f srf from start k) s e0 e1 e2 e3 e4 k
           (unfold bell_turns in rows_first sinf_of rows sines k h (lit< tt))

@@ -16,9 +16,12 @@ bell_reached f srf from start k = iterate (λ k s. bell_next s (increment (f (fr
 unfoldable pub bell_turns : BellState → List Float
 bell_turns s = (TAU ⊗ s.ph0) ∷ (TAU ⊗ s.ph1) ∷ (TAU ⊗ s.ph2) ∷ (TAU ⊗ s.ph3) ∷ (TAU ⊗ s.ph4) ∷ (TAU ⊗ s.twin) ∷ []
 
--- six sines a frame are in s, the levels in e0 to e4; the twin's is the first partial's
-unfoldable pub bell_mix : List Float → List Float → List Float → List Float → List Float → List Float → ℕ → Float
-bell_mix s e0 e1 e2 e3 e4 k =
-    (c0 ⊕ c1 ⊗ get_or e0 k nan ⊗ get_or s (k * 6) nan ⊕ c0·6 ⊗ get_or e1 k nan ⊗ get_or s (k * 6 + 1) nan ⊕ c0·4 ⊗ get_or e2 k nan ⊗ get_or s (k * 6 + 2) nan
-    ⊕ c0·3 ⊗ get_or e3 k nan ⊗ get_or s (k * 6 + 3) nan ⊕ c0·2 ⊗ get_or e4 k nan ⊗ get_or s (k * 6 + 4) nan ⊕ get_or e0 k nan ⊗ get_or s (k * 6 + 5) nan)
-    ⊗ bell_norm
+-- s0 to s5 are the sines, e0 to e4 the levels; the twin's is the first partial's
+unfoldable pub bell_mix : Float → Float → Float → Float → Float → Float → Float → Float → Float → Float → Float → Float
+bell_mix s0 s1 s2 s3 s4 s5 e0 e1 e2 e3 e4 = (c0 ⊕ c1 ⊗ e0 ⊗ s0 ⊕ c0·6 ⊗ e1 ⊗ s1 ⊕ c0·4 ⊗ e2 ⊗ s2 ⊕ c0·3 ⊗ e3 ⊗ s3 ⊕ c0·2 ⊗ e4 ⊗ s4 ⊕ e0 ⊗ s5) ⊗ bell_norm
+
+-- of frame k: six sines a frame are in s, the levels in e0 to e4
+unfoldable pub bell_mix_at : List Float → List Float → List Float → List Float → List Float → List Float → ℕ → Float
+bell_mix_at s e0 e1 e2 e3 e4 k =
+    bell_mix (get_or s (k * 6) nan) (get_or s (k * 6 + 1) nan) (get_or s (k * 6 + 2) nan) (get_or s (k * 6 + 3) nan) (get_or s (k * 6 + 4) nan) (get_or s (k * 6 + 5) nan) (get_or e0 k nan)
+    (get_or e1 k nan) (get_or e2 k nan) (get_or e3 k nan) (get_or e4 k nan)

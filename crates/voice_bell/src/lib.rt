@@ -2,6 +2,8 @@
 // the pitch. Each has its own decay, so that the high ones die first and the hum rings on. A twin of the lowest,
 // 0.1 percent sharp, beats slowly with it, which is the shimmer. It goes by blocks of up to 64 frames: the phases
 // first, then the sines and the levels of the whole block, then the samples.
+#![tactic(auto)]
+
 ghost use Rattle.std.specs.Prelude.{◌≡◌, ◌+◌, ◌≤◌, ◌<◌, length};
 ghost use Rattle.std.specs.Float.{nan};
 ghost use Rattle.blocks.specs.Stored.{stored};
@@ -13,26 +15,26 @@ ghost use Rattle.dsl.specs.Pitch.{pitch_at, reaches};
 ghost use Rattle.frame_block.specs.Decay.{decay_at};
 ghost use Rattle.ieee.specs.Numbers.{c0·25, c0·4, c0·8, c3};
 ghost use Rattle.voice_bell.specs.Bell.{c1·5, bell_next, bell_at, bell_frames};
-ghost use Rattle.voice_bell.specs.Block.{bell_reached, bell_turns, bell_mix};
+ghost use Rattle.voice_bell.specs.Block.{bell_reached, bell_turns, bell_mix_at};
 
 use dsl::Reading;
 
 // The phases of the five partials and of the twin.
-#[derive(Drop)]
-struct BellState {
-    ph0: f32,
-    ph1: f32,
-    ph2: f32,
-    ph3: f32,
-    ph4: f32,
-    twin: f32,
+#[derive(Clone, Copy)]
+pub struct BellState {
+    pub ph0: f32,
+    pub ph1: f32,
+    pub ph2: f32,
+    pub ph3: f32,
+    pub ph4: f32,
+    pub twin: f32,
 }
 
 // A frame of the definition.
-#[derive(Drop)]
-struct BellOut {
-    sample: f32,
-    state: BellState,
+#[derive(Clone, Copy)]
+pub struct BellOut {
+    pub sample: f32,
+    pub state: BellState,
 }
 
 // The sample of frame k of a block by its sines and the levels of the partials.
@@ -46,7 +48,7 @@ fn bell_mix(
     k: usize,
 ) -> f32
     requires { k < 64 }
-    ensures { result ≡ bell_mix s.now e0.now e1.now e2.now e3.now e4.now k }
+    ensures { result ≡ bell_mix_at s.now e0.now e1.now e2.now e3.now e4.now k }
 {
     let norm = 1.0 / (1.0 + (1.0 + 0.6 + 0.4 + 0.3 + 0.2));
     let at = k * 6;
@@ -60,7 +62,7 @@ fn bell_mix(
 }
 
 // The phases before the next frame.
-fn bell_next(s: BellState, dt: f32) -> BellState
+pub fn bell_next(s: BellState, dt: f32) -> BellState
     ensures { result ≡ bell_next s dt }
 {
     BellState {
@@ -121,7 +123,7 @@ fn mix(
     out: &mut [f32],
 )
     requires { (n ≤ 64) × (from + n ≤ length out.old) }
-    ensures { out.new ≡ stored (bell_mix s.now e0.now e1.now e2.now e3.now e4.now) from n out.old }
+    ensures { out.new ≡ stored (bell_mix_at s.now e0.now e1.now e2.now e3.now e4.now) from n out.old }
 {
     let mut k = 0usize;
     while k < n {

@@ -2,6 +2,8 @@
 // one-pole lowpass whose cutoff swells from 800 to 2,200 hertz over the first 70 ms, the blat of a horn's lip reed.
 // A louder note opens it further. It goes by blocks of up to 64 frames: the filter's openings first, then the frames
 // in order.
+#![tactic(auto)]
+
 ghost use Rattle.std.specs.Prelude.{◌≡◌, ◌+◌, ◌-◌, ◌≤◌, ◌<◌, length, get_or};
 ghost use Rattle.std.specs.Float.{nan};
 ghost use Rattle.blocks.proofs.Carried.{Carried};
@@ -13,14 +15,14 @@ ghost use Rattle.voice_brass.specs.Block.{brass_by};
 use dsl::Reading;
 
 // The phases of the saws, spread so that the onset is no click, and the filter's memory.
-#[derive(Drop)]
+#[derive(Clone, Copy)]
 struct BrassState {
     low: f32,
     high: f32,
     lp: f32,
 }
 
-#[derive(Drop)]
+#[derive(Clone, Copy)]
 struct BrassOut {
     sample: f32,
     state: BrassState,

@@ -11,9 +11,10 @@ use Rattle.voice_cowbell.specs.Cowbell.{c1·565}
 unfoldable pub cowbell_turns : Float → Float → ℕ → List Float
 cowbell_turns fi srf i = (TAU ⊗ max_of fi c20 ⊗ seconds srf i) ∷ (TAU ⊗ max_of fi c20 ⊗ c1·565 ⊗ seconds srf i) ∷ []
 
--- two tangents a frame are in s, the levels in e
-unfoldable pub cowbell_mix : List Float → List Float → ℕ → Float
-cowbell_mix s e k =
-    let a = get_or s (k * 2) nan in
-    let b = get_or s (k * 2 + 1) nan in
-    c0·5 ⊗ (a ⊕ b) ⊗ get_or e k nan
+-- a and b are the tangents, e the level
+abbrev pub cowbell_mix : Float → Float → Float → Float
+cowbell_mix a b e = c0·5 ⊗ (a ⊕ b) ⊗ e
+
+-- of frame k: two tangents a frame are in s, the levels in e
+unfoldable pub cowbell_mix_at : List Float → List Float → ℕ → Float
+cowbell_mix_at s e k = cowbell_mix (get_or s (k * 2) nan) (get_or s (k * 2 + 1) nan) (get_or e k nan)

@@ -2,6 +2,8 @@
 // they are near squares, with the fast decay of a knock. Each frame stands by itself, with no state. It
 // goes by blocks of up to 64 frames: the arguments of the sines first, then the sines, their tangents and
 // the levels of the whole block, then the samples. The drum kits play it too, at a pitch of their own.
+#![tactic(auto)]
+
 ghost use Rattle.std.specs.Prelude.{◌≡◌, ◌+◌, ◌*◌, ◌≤◌, ◌<◌, length, get_or};
 ghost use Rattle.std.specs.Float.{nan};
 ghost use Rattle.ieee.specs.Binary32.{◌⊗◌};
@@ -10,15 +12,24 @@ ghost use Rattle.blocks.proofs.Block.{Tabled};
 ghost use Rattle.blocks.proofs.Rows.{Rows};
 ghost use Rattle.dsl.specs.Domain.{Frames};
 ghost use Rattle.dsl.specs.Pitch.{pitch_at, reaches};
-ghost use Rattle.voice_cowbell.specs.Cowbell.{c2·5, cowbell_at, cowbell_frames};
-ghost use Rattle.voice_cowbell.specs.Block.{cowbell_turns, cowbell_mix};
+ghost use Rattle.voice_cowbell.specs.Cowbell.{c2·5, cowbell_of, cowbell_at, cowbell_frames};
+ghost use Rattle.voice_cowbell.specs.Block.{cowbell_turns, cowbell_mix_at};
 
 use dsl::{Pitch, Reading};
 
+// One sample at the pitch f and the time t.
+pub fn cowbell_sample(f: f32, t: f32) -> f32
+    ensures { result ≡ cowbell_of f t }
+{
+    let a = dsp::tanh(2.5 * dsp::sin(dsp::TAU * f * t));
+    let b = dsp::tanh(2.5 * dsp::sin(dsp::TAU * f * 1.565 * t));
+    0.5 * (a + b) * dsp::exp(-t / 0.09)
+}
+
 // The sample of frame k of a block by its tangents and its level.
-fn cowbell_sample(s: &[f32; 384], e: &[f32; 64], k: usize) -> f32
+fn mixed(s: &[f32; 384], e: &[f32; 64], k: usize) -> f32
     requires { k < 64 }
-    ensures { result ≡ cowbell_mix s.now e.now k }
+    ensures { result ≡ cowbell_mix_at s.now e.now k }
 {
     let a = s[k * 2];
     let b = s[k * 2 + 1];
@@ -56,11 +67,11 @@ fn driven(s: &[f32; 384], n: usize, x: &mut [f32; 384])
 // The samples of n frames.
 fn mix(s: &[f32; 384], e: &[f32; 64], n: usize, z: &mut [f32; 64])
     requires { (n ≤ 64) × (length z.old ≡ 64) }
-    ensures { (length z.new ≡ 64) × Tabled (cowbell_mix s.now e.now) nan 0 n z.new }
+    ensures { (length z.new ≡ 64) × Tabled (cowbell_mix_at s.now e.now) nan 0 n z.new }
 {
     let mut k = 0usize;
     while k < n {
-        z[k] = cowbell_sample(s, e, k);
+        z[k] = mixed(s, e, k);
         k += 1;
     }
 }

@@ -1,1 +1,2 @@
 mod Epiano
+pub mod Frame

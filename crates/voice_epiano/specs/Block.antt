@@ -21,19 +21,38 @@ epiano_reached f srf from start k = iterate (λ k s. epiano_next s (increment (f
 unfoldable pub inner_turns : EpianoState → List Float
 inner_turns s = (TAU ⊗ s.mph) ∷ (TAU ⊗ s.tph) ∷ []
 
-abbrev pub carrier_turn : EpianoState → Float
-carrier_turn s = TAU ⊗ s.cph
+-- of the carrier, as a row of one
+unfoldable pub carrier_turn : EpianoState → List Float
+carrier_turn s = (TAU ⊗ s.cph) ∷ []
 
--- the carrier's turns are in c, the exponentials in soft and ping, two inner sines a frame in s
-unfoldable pub body_turn : Float → List Float → List Float → List Float → ℕ → Float
-body_turn gain c soft s k = get_or c k nan ⊕ (c0·5 ⊕ c1 ⊗ gain) ⊗ get_or soft k nan ⊗ get_or s (k * 2) nan
+-- the number of that row
+abbrev pub carrier_turn_of : EpianoState → Float
+carrier_turn_of s = TAU ⊗ s.cph
 
-unfoldable pub tine_turn : Float → List Float → List Float → List Float → ℕ → Float
-tine_turn gain c ping s k = get_or c k nan ⊕ (c0·8 ⊕ c1·4 ⊗ gain) ⊗ get_or ping k nan ⊗ get_or s (k * 2 + 1) nan
+-- by the carrier's turn c, the exponential and the inner sine m
+abbrev pub body_turn : Float → Float → Float → Float → Float
+body_turn gain c soft m = c ⊕ (c0·5 ⊕ c1 ⊗ gain) ⊗ soft ⊗ m
 
-unfoldable pub outer_turns : Float → List Float → List Float → List Float → List Float → ℕ → List Float
-outer_turns gain c soft ping s k = body_turn gain c soft s k ∷ tine_turn gain c ping s k ∷ []
+abbrev pub tine_turn : Float → Float → Float → Float → Float
+tine_turn gain c ping m = c ⊕ (c0·8 ⊕ c1·4 ⊗ gain) ⊗ ping ⊗ m
+
+-- the row of both, by numbers: m is the inner sine of the body, t that of the tine
+unfoldable pub outer_turns : Float → Float → Float → Float → Float → Float → List Float
+outer_turns gain c soft ping m t = body_turn gain c soft m ∷ tine_turn gain c ping t ∷ []
+
+unfoldable pub epiano_mix : Float → Float → Float → Float
+epiano_mix body tine fade = (c0·75 ⊗ body ⊕ c0·25 ⊗ tine) ⊗ fade
+
+-- of frame k: the carrier's turns are in c, the exponentials in soft and ping, two inner sines a frame in s
+unfoldable pub body_turn_at : Float → List Float → List Float → List Float → ℕ → Float
+body_turn_at gain c soft s k = body_turn gain (get_or c k nan) (get_or soft k nan) (get_or s (k * 2) nan)
+
+unfoldable pub tine_turn_at : Float → List Float → List Float → List Float → ℕ → Float
+tine_turn_at gain c ping s k = tine_turn gain (get_or c k nan) (get_or ping k nan) (get_or s (k * 2 + 1) nan)
+
+unfoldable pub outer_turns_at : Float → List Float → List Float → List Float → List Float → ℕ → List Float
+outer_turns_at gain c soft ping s k = outer_turns gain (get_or c k nan) (get_or soft k nan) (get_or ping k nan) (get_or s (k * 2) nan) (get_or s (k * 2 + 1) nan)
 
 -- two outer sines a frame are in s
-unfoldable pub epiano_mix : List Float → List Float → ℕ → Float
-epiano_mix s fade k = (c0·75 ⊗ get_or s (k * 2) nan ⊕ c0·25 ⊗ get_or s (k * 2 + 1) nan) ⊗ get_or fade k nan
+unfoldable pub epiano_mix_at : List Float → List Float → ℕ → Float
+epiano_mix_at s fade k = epiano_mix (get_or s (k * 2) nan) (get_or s (k * 2 + 1) nan) (get_or fade k nan)

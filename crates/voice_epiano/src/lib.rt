@@ -1,6 +1,8 @@
 // The electric piano, as a Rhodes: a soft body, its sine bent at its own pitch, under a metal tine, bent at 14 times
 // the pitch, that pings on the attack. A louder note opens the tine. It goes by blocks of up to 64 frames: the
 // exponentials and the phases first, then the inner sines of the whole block, then the outer ones, then the samples.
+#![tactic(auto)]
+
 ghost use Rattle.std.specs.Prelude.{◌≡◌, ◌+◌, ◌≤◌, ◌<◌, length};
 ghost use Rattle.std.specs.Float.{nan};
 ghost use Rattle.blocks.specs.Stored.{stored};
@@ -12,53 +14,73 @@ ghost use Rattle.dsl.specs.Pitch.{pitch_at, reaches};
 ghost use Rattle.frame_block.specs.Decay.{decay_at};
 ghost use Rattle.ieee.specs.Numbers.{c0·5};
 ghost use Rattle.voice_epiano.specs.Epiano.{c0·035, epiano_decay, epiano_at, epiano_sound, epiano_frames};
-ghost use Rattle.voice_epiano.specs.Block.{inner_turns, carrier_turn, body_turn, tine_turn, outer_turns, epiano_mix, epiano_next, epiano_reached};
+ghost use Rattle.voice_epiano.specs.Block.{inner_turns, carrier_turn_of, body_turn, tine_turn, epiano_mix, body_turn_at, tine_turn_at, outer_turns_at, epiano_mix_at, epiano_next, epiano_reached};
 
 use dsl::Reading;
 
 // The phases of the carrier, of the body's modulator and of the tine's.
-#[derive(Drop)]
-struct EpianoState {
-    cph: f32,
-    mph: f32,
-    tph: f32,
+#[derive(Clone, Copy)]
+pub struct EpianoState {
+    pub cph: f32,
+    pub mph: f32,
+    pub tph: f32,
 }
 
 // A frame of the definition.
-#[derive(Drop)]
-struct EpianoOut {
-    sample: f32,
-    state: EpianoState,
+#[derive(Clone, Copy)]
+pub struct EpianoOut {
+    pub sample: f32,
+    pub state: EpianoState,
+}
+
+// The carrier's turn c, bent by the body's inner sine m.
+pub fn body_turn(gain: f32, c: f32, soft: f32, m: f32) -> f32
+    ensures { result ≡ body_turn gain c soft m }
+{
+    let body_idx = (0.5 + 1.0 * gain) * soft;
+    c + body_idx * m
+}
+
+// The carrier's turn c, bent by the tine's inner sine m.
+pub fn tine_turn(gain: f32, c: f32, ping: f32, m: f32) -> f32
+    ensures { result ≡ tine_turn gain c ping m }
+{
+    let tine_idx = (0.8 + 1.4 * gain) * ping;
+    c + tine_idx * m
+}
+
+pub fn epiano_mix(body: f32, tine: f32, fade: f32) -> f32
+    ensures { result ≡ epiano_mix body tine fade }
+{
+    (0.75 * body + 0.25 * tine) * fade
 }
 
 // The carrier's turn in frame k of a block, bent by the body's inner sine.
-fn body_turn(gain: f32, c: &[f32; 64], soft: &[f32; 64], s: &[f32; 384], k: usize) -> f32
+fn body_turn_at(gain: f32, c: &[f32; 64], soft: &[f32; 64], s: &[f32; 384], k: usize) -> f32
     requires { k < 64 }
-    ensures { result ≡ body_turn gain c.now soft.now s.now k }
+    ensures { result ≡ body_turn_at gain c.now soft.now s.now k }
 {
-    let body_idx = (0.5 + 1.0 * gain) * soft[k];
-    c[k] + body_idx * s[k * 2]
+    body_turn(gain, c[k], soft[k], s[k * 2])
 }
 
 // The carrier's turn in frame k of a block, bent by the tine's inner sine.
-fn tine_turn(gain: f32, c: &[f32; 64], ping: &[f32; 64], s: &[f32; 384], k: usize) -> f32
+fn tine_turn_at(gain: f32, c: &[f32; 64], ping: &[f32; 64], s: &[f32; 384], k: usize) -> f32
     requires { k < 64 }
-    ensures { result ≡ tine_turn gain c.now ping.now s.now k }
+    ensures { result ≡ tine_turn_at gain c.now ping.now s.now k }
 {
-    let tine_idx = (0.8 + 1.4 * gain) * ping[k];
-    c[k] + tine_idx * s[k * 2 + 1]
+    tine_turn(gain, c[k], ping[k], s[k * 2 + 1])
 }
 
 // The sample of frame k of a block by its outer sines.
-fn epiano_mix(s: &[f32; 384], fade: &[f32; 64], k: usize) -> f32
+fn epiano_mix_at(s: &[f32; 384], fade: &[f32; 64], k: usize) -> f32
     requires { k < 64 }
-    ensures { result ≡ epiano_mix s.now fade.now k }
+    ensures { result ≡ epiano_mix_at s.now fade.now k }
 {
-    (0.75 * s[k * 2] + 0.25 * s[k * 2 + 1]) * fade[k]
+    epiano_mix(s[k * 2], s[k * 2 + 1], fade[k])
 }
 
 // The phases before the next frame.
-fn epiano_next(s: EpianoState, dt: f32) -> EpianoState
+pub fn epiano_next(s: EpianoState, dt: f32) -> EpianoState
     ensures { result ≡ epiano_next s dt }
 {
     EpianoState {
@@ -83,7 +105,7 @@ fn phases(
     requires reaches { reaches pitch (length lane.now) (from + n) }
     ensures x_len { (length x.new ≡ 384) × (length c.new ≡ 64) }
     ensures rows { Rows 2 (λ k. inner_turns (epiano_reached (pitch_at pitch lane.now) srf from start k)) nan n x.new }
-    ensures tabled { Tabled (λ k. carrier_turn (epiano_reached (pitch_at pitch lane.now) srf from start k)) nan 0 n c.new }
+    ensures tabled { Tabled (λ k. carrier_turn_of (epiano_reached (pitch_at pitch lane.now) srf from start k)) nan 0 n c.new }
     ensures value { result ≡ epiano_reached (pitch_at pitch lane.now) srf from start n }
 {
     let mut s = start;
@@ -108,12 +130,12 @@ fn bend(
     x: &mut [f32; 384],
 )
     requires { (n ≤ 64) × (length x.old ≡ 384) }
-    ensures { (length x.new ≡ 384) × Rows 2 (outer_turns gain c.now soft.now ping.now s.now) nan n x.new }
+    ensures { (length x.new ≡ 384) × Rows 2 (outer_turns_at gain c.now soft.now ping.now s.now) nan n x.new }
 {
     let mut k = 0usize;
     while k < n {
-        let body = body_turn(gain, c, soft, s, k);
-        let tine = tine_turn(gain, c, ping, s, k);
+        let body = body_turn_at(gain, c, soft, s, k);
+        let tine = tine_turn_at(gain, c, ping, s, k);
         frame_block::store2(x, k * 2, body, tine);
         k += 1;
     }
@@ -122,11 +144,11 @@ fn bend(
 // The samples of n frames.
 fn mix(s: &[f32; 384], fade: &[f32; 64], from: usize, n: usize, out: &mut [f32])
     requires { (n ≤ 64) × (from + n ≤ length out.old) }
-    ensures { out.new ≡ stored (epiano_mix s.now fade.now) from n out.old }
+    ensures { out.new ≡ stored (epiano_mix_at s.now fade.now) from n out.old }
 {
     let mut k = 0usize;
     while k < n {
-        out[from + k] = epiano_mix(s, fade, k);
+        out[from + k] = epiano_mix_at(s, fade, k);
         k += 1;
     }
 }

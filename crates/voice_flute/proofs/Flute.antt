@@ -23,7 +23,7 @@ use Rattle.rng.proofs.States.{draws_leave}
 use Rattle.osc.specs.Phase.{wrapped}
 use Rattle.frame_block.specs.Decay.{decay_at}
 use Rattle.voice_flute.specs.Flute.{c5·5, rng_at, flute_at}
-use Rattle.voice_flute.specs.Block.{flute_next, flute_mix, flute_reached}
+use Rattle.voice_flute.specs.Block.{flute_next, flute_mix, flute_mix_at, flute_reached}
 use Rattle.voice_flute.specs.declared.FluteState.{FluteState}
 
 pub flute_step :
@@ -44,11 +44,11 @@ module _ (fi gain srf lpA : Float) (i : ℕ) (z : FluteState) where
   after = flute_next (decay_at srf c0·15 i) fi srf lpA z
 
   module _ (s b : List Float) (k : ℕ) where
-    flute_by : get_or s k nan ≡ sin_of (TAU ⊗ after.phase) → get_or b k nan ≡ after.lp → flute_mix s b gain k ≡ (flute_at fi gain srf lpA i z).sample
-    unfolding flute_next flute_mix flute_at
+    flute_by : get_or s k nan ≡ sin_of (TAU ⊗ after.phase) → get_or b k nan ≡ after.lp → flute_mix_at s b gain k ≡ (flute_at fi gain srf lpA i z).sample
+    unfolding flute_next flute_mix flute_mix_at flute_at
     flute_by a c = rw (a, c)
 
-    flute_sample : {z' : FluteState} → z' ≡ after → get_or s k nan ≡ sin_of (TAU ⊗ z'.phase) → get_or b k nan ≡ z'.lp → flute_mix s b gain k ≡ (flute_at fi gain srf lpA i z).sample
+    flute_sample : {z' : FluteState} → z' ≡ after → get_or s k nan ≡ sin_of (TAU ⊗ z'.phase) → get_or b k nan ≡ z'.lp → flute_mix_at s b gain k ≡ (flute_at fi gain srf lpA i z).sample
     flute_sample e a c = flute_by (a ∙ ap (λ (z : FluteState). sin_of (TAU ⊗ z.phase)) e) (c ∙ ap (λ (z : FluteState). z.lp) e)
 
 -- ---- a block
@@ -115,14 +115,14 @@ module _ (f : ℕ → Float) (gain srf lpA : Float) (from end : ℕ) (start : Fl
       Tabled (λ j. sinf_of (get_or x j nan)) nan 0 (end - from) s →
       from ≤ end →
       end ≤ length out₀ →
-      out ≡ stored (flute_mix s b gain) from (end - from) out₀ →
+      out ≡ stored (flute_mix_at s b gain) from (end - from) out₀ →
       r ≡ at (end - from) →
       Carried (λ i. flute_at (f i) gain srf lpA i) (λ o. o.sample) (λ o. o.state) from end out₀ start out r
   unfolding flute_at flute_next
   flute_carried {s = s} {b = b} turns breath sines le room e g =
-      carried_part (λ i. flute_at (f i) gain srf lpA i) (λ o. o.sample) (λ o. o.state) from start (flute_mix s b gain) end le room right e g
+      carried_part (λ i. flute_at (f i) gain srf lpA i) (λ o. o.sample) (λ o. o.state) from start (flute_mix_at s b gain) end le room right e g
     where
-      right : (k : ℕ) → k < end - from → flute_mix s b gain k ≡ (flute_at (f (from + k)) gain srf lpA (from + k) (at k)).sample
+      right : (k : ℕ) → k < end - from → flute_mix_at s b gain k ≡ (flute_at (f (from + k)) gain srf lpA (from + k) (at k)).sample
       right k h =
           flute_sample (f (from + k)) gain srf lpA (from + k) (at k) s b k (at_next k) (tabled_at sines k h ∙ ap sinf_of (tabled_at turns k h)) (tabled_at breath k h)
 

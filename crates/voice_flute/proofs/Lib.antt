@@ -1,1 +1,2 @@
 mod Flute
+pub mod Frame

@@ -27,6 +27,10 @@ flute_next e fi srf lpA s =
 abbrev pub flute_reached : (ℕ → Float) → Float → Float → ℕ → FluteState → ℕ → FluteState
 flute_reached f srf lpA from start k = iterate (λ k s. flute_next (decay_at srf c0·15 (from + k)) (f (from + k)) srf lpA s) start k
 
--- the tone's sines are in s, the breath after each frame's draw in b
-unfoldable pub flute_mix : List Float → List Float → Float → ℕ → Float
-flute_mix s b gain k = c0·9 ⊗ get_or s k nan ⊕ (c0·02 ⊕ c0·03 ⊗ gain) ⊗ get_or b k nan
+-- lp is the breath after the frame's draw
+unfoldable pub flute_mix : Float → Float → Float → Float
+flute_mix tone gain lp = c0·9 ⊗ tone ⊕ (c0·02 ⊕ c0·03 ⊗ gain) ⊗ lp
+
+-- of frame k: the tone's sines are in s, the breath after each frame's draw in b
+unfoldable pub flute_mix_at : List Float → List Float → Float → ℕ → Float
+flute_mix_at s b gain k = flute_mix (get_or s k nan) gain (get_or b k nan)

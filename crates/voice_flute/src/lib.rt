@@ -3,6 +3,8 @@
 // more of it in a louder note. Each frame draws once, in order, so that cutting the note into blocks changes no
 // sample. It goes by blocks of up to 64 frames: the exponentials of the vibrato's depth first, then the states, each
 // from the one before, then the sines of the tone, then the samples.
+#![tactic(auto)]
+
 ghost use Rattle.std.specs.Prelude.{◌≡◌, ◌+◌, ◌≤◌, ◌<◌, length};
 ghost use Rattle.std.specs.Float.{nan};
 ghost use Rattle.blocks.specs.Stored.{stored};
@@ -16,29 +18,29 @@ ghost use Rattle.dsl.specs.Pitch.{pitch_at, reaches};
 ghost use Rattle.frame_block.specs.Decay.{decay_at};
 ghost use Rattle.rng.specs.SplitMix64.{state_after};
 ghost use Rattle.voice_flute.specs.Flute.{flute_at, flute_frames};
-ghost use Rattle.voice_flute.specs.Block.{flute_next, flute_mix, flute_reached};
+ghost use Rattle.voice_flute.specs.Block.{flute_next, flute_mix, flute_mix_at, flute_reached};
 
 use dsl::Reading;
 use rng::Rng;
 
 // The phases of the tone and of the vibrato, the breath filter's memory, and the generator.
-#[derive(Drop)]
-struct FluteState {
-    phase: f32,
-    vib: f32,
-    lp: f32,
-    rng: Rng,
+#[derive(Clone, Copy)]
+pub struct FluteState {
+    pub phase: f32,
+    pub vib: f32,
+    pub lp: f32,
+    pub rng: Rng,
 }
 
 // A frame of the definition.
-#[derive(Drop)]
-struct FluteOut {
-    sample: f32,
-    state: FluteState,
+#[derive(Clone, Copy)]
+pub struct FluteOut {
+    pub sample: f32,
+    pub state: FluteState,
 }
 
 // The state after a frame, its vibrato faded in by the exponential e.
-fn flute_next(e: f32, fi: f32, srf: f32, lp_a: f32, s: FluteState) -> FluteState
+pub fn flute_next(e: f32, fi: f32, srf: f32, lp_a: f32, s: FluteState) -> FluteState
     ensures { result ≡ flute_next e fi srf lp_a s }
 {
     let depth = 0.006 * (1.0 - e);
@@ -58,12 +60,19 @@ fn flute_next(e: f32, fi: f32, srf: f32, lp_a: f32, s: FluteState) -> FluteState
     }
 }
 
-// The sample of frame k of a block by the tone's sines s and the breath b.
-fn flute_mix(s: &[f32; 384], b: &[f32; 64], gain: f32, k: usize) -> f32
-    requires { k < 64 }
-    ensures { result ≡ flute_mix s.now b.now gain k }
+// A frame's sample, by the tone's sine and the breath.
+pub fn flute_mix(tone: f32, gain: f32, lp: f32) -> f32
+    ensures { result ≡ flute_mix tone gain lp }
 {
-    0.9 * s[k] + (0.02 + 0.03 * gain) * b[k]
+    0.9 * tone + (0.02 + 0.03 * gain) * lp
+}
+
+// The sample of frame k of a block by the tone's sines s and the breath b.
+fn flute_mix_at(s: &[f32; 384], b: &[f32; 64], gain: f32, k: usize) -> f32
+    requires { k < 64 }
+    ensures { result ≡ flute_mix_at s.now b.now gain k }
+{
+    flute_mix(s[k], gain, b[k])
 }
 
 // The arguments x of the tone's sines and the breath b of n frames, whose exponentials are e; hands back
@@ -103,11 +112,11 @@ fn states(
 // The samples of n frames.
 fn mix(s: &[f32; 384], b: &[f32; 64], gain: f32, from: usize, n: usize, out: &mut [f32])
     requires { (n ≤ 64) × (from + n ≤ length out.old) }
-    ensures { out.new ≡ stored (flute_mix s.now b.now gain) from n out.old }
+    ensures { out.new ≡ stored (flute_mix_at s.now b.now gain) from n out.old }
 {
     let mut k = 0usize;
     while k < n {
-        out[from + k] = flute_mix(s, b, gain, k);
+        out[from + k] = flute_mix_at(s, b, gain, k);
         k += 1;
     }
 }

@@ -19,8 +19,12 @@ mallet_reached f srf from start k = iterate (λ k s. mallet_next s (increment (f
 unfoldable pub mallet_turns : MalletState → List Float
 mallet_turns s = (TAU ⊗ s.ph0) ∷ (TAU ⊗ s.ph1) ∷ (TAU ⊗ s.ph2) ∷ []
 
--- three sines a frame are in s, the levels of the strike partials in e1 and e2
-unfoldable pub mallet_mix : Float → List Float → List Float → List Float → ℕ → Float
-mallet_mix gain s e1 e2 k =
+-- s0 to s2 are the sines, e1 and e2 the levels
+unfoldable pub mallet_mix : Float → Float → Float → Float → Float → Float → Float
+mallet_mix gain s0 s1 s2 e1 e2 =
     let bright = c0·4 ⊕ c0·6 ⊗ gain in
-    c0·7 ⊗ (get_or s (k * 3) nan ⊕ bright ⊗ c0·5 ⊗ get_or e1 k nan ⊗ get_or s (k * 3 + 1) nan ⊕ bright ⊗ c0·25 ⊗ get_or e2 k nan ⊗ get_or s (k * 3 + 2) nan)
+    c0·7 ⊗ (s0 ⊕ bright ⊗ c0·5 ⊗ e1 ⊗ s1 ⊕ bright ⊗ c0·25 ⊗ e2 ⊗ s2)
+
+-- of frame k: three sines a frame are in s, the levels of the strike partials in e1 and e2
+unfoldable pub mallet_mix_at : Float → List Float → List Float → List Float → ℕ → Float
+mallet_mix_at gain s e1 e2 k = mallet_mix gain (get_or s (k * 3) nan) (get_or s (k * 3 + 1) nan) (get_or s (k * 3 + 2) nan) (get_or e1 k nan) (get_or e2 k nan)

@@ -2,6 +2,8 @@
 // bar, that die in some tens of milliseconds. A louder note strikes brighter. It is woodier than the electric piano
 // and lives shorter. It goes by blocks of up to 64 frames: the phases first, then the sines and the levels of the
 // whole block, then the samples.
+#![tactic(auto)]
+
 ghost use Rattle.std.specs.Prelude.{◌≡◌, ◌+◌, ◌≤◌, ◌<◌, length};
 ghost use Rattle.std.specs.Float.{nan};
 ghost use Rattle.blocks.specs.Stored.{stored};
@@ -10,36 +12,43 @@ ghost use Rattle.blocks.proofs.Carried.{Carried};
 ghost use Rattle.dsl.specs.Domain.{Frames};
 ghost use Rattle.dsl.specs.Pitch.{pitch_at, reaches};
 ghost use Rattle.voice_mallet.specs.Mallet.{mallet_at, mallet_frames};
-ghost use Rattle.voice_mallet.specs.Block.{mallet_next, mallet_reached, mallet_turns, mallet_mix};
+ghost use Rattle.voice_mallet.specs.Block.{mallet_next, mallet_reached, mallet_turns, mallet_mix, mallet_mix_at};
 
 use dsl::Reading;
 
 // The phases of the three partials.
-#[derive(Drop)]
-struct MalletState {
-    ph0: f32,
-    ph1: f32,
-    ph2: f32,
+#[derive(Clone, Copy)]
+pub struct MalletState {
+    pub ph0: f32,
+    pub ph1: f32,
+    pub ph2: f32,
 }
 
 // A frame of the definition.
-#[derive(Drop)]
-struct MalletOut {
-    sample: f32,
-    state: MalletState,
+#[derive(Clone, Copy)]
+pub struct MalletOut {
+    pub sample: f32,
+    pub state: MalletState,
+}
+
+// The sample by the sines s0 to s2 and the levels e1 and e2 of the strike partials.
+pub fn mallet_mix(gain: f32, s0: f32, s1: f32, s2: f32, e1: f32, e2: f32) -> f32
+    ensures { result ≡ mallet_mix gain s0 s1 s2 e1 e2 }
+{
+    let bright = 0.4 + 0.6 * gain;
+    0.7 * (s0 + bright * 0.5 * e1 * s1 + bright * 0.25 * e2 * s2)
 }
 
 // The sample of frame k of a block by its sines and the levels of the strike partials.
-fn mallet_mix(gain: f32, s: &[f32; 384], e1: &[f32; 64], e2: &[f32; 64], k: usize) -> f32
+fn mallet_mix_at(gain: f32, s: &[f32; 384], e1: &[f32; 64], e2: &[f32; 64], k: usize) -> f32
     requires { k < 64 }
-    ensures { result ≡ mallet_mix gain s.now e1.now e2.now k }
+    ensures { result ≡ mallet_mix_at gain s.now e1.now e2.now k }
 {
-    let bright = 0.4 + 0.6 * gain;
-    0.7 * (s[k * 3] + bright * 0.5 * e1[k] * s[k * 3 + 1] + bright * 0.25 * e2[k] * s[k * 3 + 2])
+    mallet_mix(gain, s[k * 3], s[k * 3 + 1], s[k * 3 + 2], e1[k], e2[k])
 }
 
 // The phases before the next frame.
-fn mallet_next(s: MalletState, dt: f32) -> MalletState
+pub fn mallet_next(s: MalletState, dt: f32) -> MalletState
     ensures { result ≡ mallet_next s dt }
 {
     MalletState {
@@ -92,11 +101,11 @@ fn mix(
     out: &mut [f32],
 )
     requires { (n ≤ 64) × (from + n ≤ length out.old) }
-    ensures { out.new ≡ stored (mallet_mix gain s.now e1.now e2.now) from n out.old }
+    ensures { out.new ≡ stored (mallet_mix_at gain s.now e1.now e2.now) from n out.old }
 {
     let mut k = 0usize;
     while k < n {
-        out[from + k] = mallet_mix(gain, s, e1, e2, k);
+        out[from + k] = mallet_mix_at(gain, s, e1, e2, k);
         k += 1;
     }
 }

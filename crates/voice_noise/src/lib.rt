@@ -1,5 +1,7 @@
 // White noise: one draw `bi` a frame, in order, which is also what a plucked string starts as. It has
 // no pitch and reads no knob.
+#![tactic(auto)]
+
 ghost use Rattle.std.specs.Prelude.{◌≡◌, length};
 ghost use Rattle.rng.specs.SplitMix64.{state_after};
 ghost use Rattle.voice_noise.specs.Noise.{noise_frames};

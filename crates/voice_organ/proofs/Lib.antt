@@ -1,3 +1,4 @@
 mod Organ
 mod Same
+pub mod Frame
 pub mod Bars

@@ -18,13 +18,13 @@ use Rattle.dsl.specs.declared.knobs.Drawbars.{Drawbars}
 use Rattle.dsp.specs.Kernels.{TAU, sin_of}
 use Rattle.frame_block.specs.Decay.{decay_at}
 use Rattle.voice_organ.specs.Organ.{organ_norm, organ_at, organ_frames}
-use Rattle.voice_organ.specs.Block.{organ_reached, organ_turns, organ_sixth, organ_mix}
+use Rattle.voice_organ.specs.Block.{organ_reached, organ_turns, organ_sixth_turn, organ_mix, organ_mix_at}
 
 -- at the ratio 6 the fourth bar's sine is the percussion's
 pub shared :
     (b : Drawbars) (at : ℕ → Float) {n : ℕ} {x y s : List Float} →
     Rows 5 (λ k. organ_turns b (at k)) nan n x →
-    Tabled (λ k. organ_sixth (at k)) nan 0 n y →
+    Tabled (λ k. organ_sixth_turn (at k)) nan 0 n y →
     Tabled (λ j. sinf_of (get_or x j nan)) nan 0 (n * 5) s →
     b.ratio4 ≡ c6 →
     (k : ℕ) →
@@ -41,10 +41,10 @@ module _ (b : Drawbars) (norm : Float) where
         get_or s (k * 5 + 2) nan ≡ sin_of (TAU ⊗ phase ⊗ b.ratio3) →
         get_or s (k * 5 + 3) nan ≡ sin_of (TAU ⊗ phase ⊗ b.ratio4) →
         get_or s (k * 5 + 4) nan ≡ sin_of (TAU ⊗ phase ⊗ b.ratio5) →
-        get_or p k nan ≡ sin_of (organ_sixth phase) →
+        get_or p k nan ≡ sin_of (organ_sixth_turn phase) →
         get_or e k nan ≡ decay_at srf c0·2 i →
-        organ_mix b norm s p e k ≡ (organ_at b norm fi srf i phase).sample
-    unfolding organ_mix organ_at
+        organ_mix_at b norm s p e k ≡ (organ_at b norm fi srf i phase).sample
+    unfolding organ_mix organ_mix_at organ_at
     organ_sample a c d f g h j = rw (a, c, d, f, g, h, j)
 
   -- the frames from `from` on and before `end`
@@ -52,23 +52,23 @@ module _ (b : Drawbars) (norm : Float) where
     pub organ_carried :
         {x y s p e out₀ out : List Float} {r : Float} →
         Rows 5 (λ k. organ_turns b (organ_reached f srf from start k)) nan (end - from) x →
-        Tabled (λ k. organ_sixth (organ_reached f srf from start k)) nan 0 (end - from) y →
+        Tabled (λ k. organ_sixth_turn (organ_reached f srf from start k)) nan 0 (end - from) y →
         Tabled (λ j. sinf_of (get_or x j nan)) nan 0 ((end - from) * 5) s →
         Tabled (λ k. sinf_of (get_or y k nan)) nan 0 (end - from) p →
         Tabled (decay_at srf c0·2) nan from end e →
         from ≤ end →
         end ≤ length out₀ →
-        out ≡ stored (organ_mix b norm s p e) from (end - from) out₀ →
+        out ≡ stored (organ_mix_at b norm s p e) from (end - from) out₀ →
         r ≡ organ_reached f srf from start (end - from) →
         Carried (λ i. organ_at b norm (f i) srf i) (λ o. o.sample) (λ o. o.state) from end out₀ start out r
     unfolding organ_at
     organ_carried {s = s} {p = p} {e = e} rows sixes sines pings levels le room is g =
-        carried_part (λ i. organ_at b norm (f i) srf i) (λ o. o.sample) (λ o. o.state) from start (organ_mix b norm s p e) end le room right is g
+        carried_part (λ i. organ_at b norm (f i) srf i) (λ o. o.sample) (λ o. o.state) from start (organ_mix_at b norm s p e) end le room right is g
       where
         sine : (k j : ℕ) → k < end - from → j < 5 → get_or s (k * 5 + j) nan ≡ sinf_of (get_or (organ_turns b (organ_reached f srf from start k)) j nan)
         sine k j h l = rows_through sinf_of rows sines k j h l
 
-        right : (k : ℕ) → k < end - from → organ_mix b norm s p e k ≡ (organ_at b norm (f (from + k)) srf (from + k) (organ_reached f srf from start k)).sample
+        right : (k : ℕ) → k < end - from → organ_mix_at b norm s p e k ≡ (organ_at b norm (f (from + k)) srf (from + k) (organ_reached f srf from start k)).sample
         right k h =
             organ_sample (f (from + k)) srf (from + k) (organ_reached f srf from start k) s p e k
             (unfold organ_turns in rows_first sinf_of rows sines k h (lit< tt))

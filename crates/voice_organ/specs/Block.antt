@@ -21,12 +21,19 @@ unfoldable pub organ_turns : Drawbars → Float → List Float
 organ_turns b phase =
     (TAU ⊗ phase ⊗ b.ratio1) ∷ (TAU ⊗ phase ⊗ b.ratio2) ∷ (TAU ⊗ phase ⊗ b.ratio3) ∷ (TAU ⊗ phase ⊗ b.ratio4) ∷ (TAU ⊗ phase ⊗ b.ratio5) ∷ []
 
-abbrev pub organ_sixth : Float → Float
-organ_sixth phase = TAU ⊗ phase ⊗ c6
+-- the percussion's turn, as the row of that one number
+unfoldable pub organ_sixth : Float → List Float
+organ_sixth phase = (TAU ⊗ phase ⊗ c6) ∷ []
 
--- five sines a frame are in s, the percussion's in p and its levels in e
-unfoldable pub organ_mix : Drawbars → Float → List Float → List Float → List Float → ℕ → Float
-organ_mix b norm s p e k =
-    (c0 ⊕ b.level1 ⊗ get_or s (k * 5) nan ⊕ b.level2 ⊗ get_or s (k * 5 + 1) nan ⊕ b.level3 ⊗ get_or s (k * 5 + 2) nan ⊕ b.level4 ⊗ get_or s (k * 5 + 3) nan
-    ⊕ b.level5 ⊗ get_or s (k * 5 + 4) nan ⊕ c0·5 ⊗ get_or e k nan ⊗ get_or p k nan)
-    ⊗ norm
+-- and the number itself
+abbrev pub organ_sixth_turn : Float → Float
+organ_sixth_turn phase = TAU ⊗ phase ⊗ c6
+
+-- s1 to s5 are the bars' sines, p is the percussion's and e its level
+unfoldable pub organ_mix : Drawbars → Float → Float → Float → Float → Float → Float → Float → Float → Float
+organ_mix b norm s1 s2 s3 s4 s5 p e = (c0 ⊕ b.level1 ⊗ s1 ⊕ b.level2 ⊗ s2 ⊕ b.level3 ⊗ s3 ⊕ b.level4 ⊗ s4 ⊕ b.level5 ⊗ s5 ⊕ c0·5 ⊗ e ⊗ p) ⊗ norm
+
+-- of frame k: five sines a frame are in s, the percussion's in p and its levels in e
+unfoldable pub organ_mix_at : Drawbars → Float → List Float → List Float → List Float → ℕ → Float
+organ_mix_at b norm s p e k =
+    organ_mix b norm (get_or s (k * 5) nan) (get_or s (k * 5 + 1) nan) (get_or s (k * 5 + 2) nan) (get_or s (k * 5 + 3) nan) (get_or s (k * 5 + 4) nan) (get_or p k nan) (get_or e k nan)

@@ -2,6 +2,8 @@
 // harmonic that pings on the attack and fades in 200 ms. The phase runs at half the pitch, so that the 16' bar is a
 // whole partial too, and each bar of a whole ratio wraps without a jump. It goes by blocks of up to 64 frames: the
 // phases first, then the sines and the percussion's levels of the whole block, then the samples.
+#![tactic(auto)]
+
 ghost use Rattle.std.specs.Prelude.{◌≡◌, ℕ, ◌+◌, ◌*◌, ◌≤◌, ◌<◌, length, get_or};
 ghost use Rattle.std.specs.Float.{nan};
 ghost use Rattle.blocks.specs.Stored.{stored};
@@ -13,12 +15,12 @@ ghost use Rattle.dsl.specs.Drawbars.{c6};
 ghost use Rattle.dsl.specs.Pitch.{pitch_at, reaches};
 ghost use Rattle.trig.specs.Single.{sinf_of};
 ghost use Rattle.voice_organ.specs.Organ.{organ_norm, organ_at, organ_frames};
-ghost use Rattle.voice_organ.specs.Block.{organ_turns, organ_sixth, organ_mix, organ_next, organ_reached};
+ghost use Rattle.voice_organ.specs.Block.{organ_turns, organ_sixth_turn, organ_mix_at, organ_next, organ_reached};
 
 use dsl::{Drawbars, Reading};
 
 // A frame of the definition. The state is the phase at half the pitch.
-#[derive(Drop)]
+#[derive(Clone, Copy)]
 struct OrganOut {
     sample: f32,
     state: f32,
@@ -40,7 +42,7 @@ fn organ_mix(
     k: usize,
 ) -> f32
     requires { k < 64 }
-    ensures { result ≡ organ_mix bars norm s.now p.now e.now k }
+    ensures { result ≡ organ_mix_at bars norm s.now p.now e.now k }
 {
     let at = k * 5;
     (0.0 + bars.level1 * s[at]
@@ -76,7 +78,7 @@ fn phases(
     requires reaches { reaches pitch (length lane.now) (from + n) }
     ensures x_len { (length x.new ≡ 384) × (length y.new ≡ 384) }
     ensures rows { Rows 5 (λ k. organ_turns bars (organ_reached (pitch_at pitch lane.now) srf from start k)) nan n x.new }
-    ensures tabled { Tabled (λ k. organ_sixth (organ_reached (pitch_at pitch lane.now) srf from start k)) nan 0 n y.new }
+    ensures tabled { Tabled (λ k. organ_sixth_turn (organ_reached (pitch_at pitch lane.now) srf from start k)) nan 0 n y.new }
     ensures value { result ≡ organ_reached (pitch_at pitch lane.now) srf from start n }
 {
     let mut s = start;
@@ -146,7 +148,7 @@ fn mix(
     out: &mut [f32],
 )
     requires { (n ≤ 64) × (from + n ≤ length out.old) }
-    ensures { out.new ≡ stored (organ_mix bars norm s.now p.now e.now) from n out.old }
+    ensures { out.new ≡ stored (organ_mix_at bars norm s.now p.now e.now) from n out.old }
 {
     let mut k = 0usize;
     while k < n {

@@ -8,7 +8,7 @@ const PI: f32 = 3.14159265358979323846264338327950288; // 40490fdb
 
 // The fundamental, how far stiffness stretches the partials, the fundamental's decay time, where
 // along the string the hammer strikes, how bright the gain makes it, and how hard the hammer is.
-#[derive(Drop)]
+#[derive(Clone, Copy)]
 pub struct Blow {
     pub f0: f32,
     pub b_inharm: f32,
@@ -20,7 +20,7 @@ pub struct Blow {
 
 // A partial of the two strings of a note: its frequency ratio to the fundamental, its amplitude,
 // its level now, what the level is multiplied by each frame, and the phase of either string.
-#[derive(Drop)]
+#[derive(Clone, Copy)]
 pub struct Partial {
     pub step: f32,
     pub amp: f32,
@@ -31,7 +31,7 @@ pub struct Partial {
 }
 
 // The first `count` of `items` sound.
-#[derive(Drop)]
+#[derive(Clone, Copy)]
 pub struct Partials {
     pub items: [Partial; 18],
     pub count: usize,

@@ -3,6 +3,8 @@
 // strike, an eighth along the string, which a louder note opens; a detuned pair of strings beats slowly, which is the
 // shimmer. Low notes ring for seconds and high ones die fast. It draws for the 6 milliseconds of the hammer's thump
 // and then nothing.
+#![tactic(auto)]
+
 mod hammer; // hammer.rt: the blow on a piano string, and its partials
 mod piano; // piano.rt: the piano
 mod wires; // wires.rt: the strings of a piano note as they sound

@@ -15,13 +15,13 @@ use crate::wires::{Pair, amp_sum, string_pair, wires_at};
 use dsl::{PianoKnobs, Reading};
 use rng::{DrawF32, Rng};
 
-#[derive(Drop)]
+#[derive(Clone, Copy)]
 pub struct PianoState {
     pub items: [Partial; 18],
     pub rng: Rng,
 }
 
-#[derive(Drop)]
+#[derive(Clone, Copy)]
 pub struct PianoOut {
     pub sample: f32,
     pub state: PianoState,

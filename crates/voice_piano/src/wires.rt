@@ -14,21 +14,21 @@ ghost use Rattle.voice_piano.specs.Block.{turns_of, no_partial};
 use crate::hammer::Partial;
 
 // What the two strings' pitches are multiplied by.
-#[derive(Drop)]
+#[derive(Clone, Copy)]
 pub struct Pair {
     pub first: f32,
     pub second: f32,
 }
 
 // A partial's frame: the sum with its two strings added, and the partial before the next frame.
-#[derive(Drop)]
+#[derive(Clone, Copy)]
 pub struct PartialOut {
     pub sum: f32,
     pub partial: Partial,
 }
 
 // A frame of all partials.
-#[derive(Drop)]
+#[derive(Clone, Copy)]
 pub struct WiresOut {
     pub sum: f32,
     pub items: [Partial; 18],

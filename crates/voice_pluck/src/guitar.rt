@@ -5,7 +5,7 @@ ghost use Rattle.voice_pluck.specs.Guitar.{mode_of, timbre_of, rung, all_rung};
 const NEG_LN_1000: f32 = -6.907755; // c0dd0c54: a fall by 60 dB
 
 // One resonance: the weights of its own last value, and of the string's.
-#[derive(Drop)]
+#[derive(Clone, Copy)]
 pub struct Mode {
     pub a1: f32,
     pub b0: f32,
@@ -13,7 +13,7 @@ pub struct Mode {
 
 // How bright and how damped the string is, and the body: Helmholtz air, top plate and back. They
 // decay alike, so the weight body_a2 of the value before the last is one for all.
-#[derive(Drop)]
+#[derive(Clone, Copy)]
 pub struct Timbre {
     pub bright: f32,
     pub damp: f32,
@@ -24,13 +24,13 @@ pub struct Timbre {
 }
 
 // The last value of a resonance, and the one before it.
-#[derive(Drop)]
+#[derive(Clone, Copy)]
 pub struct Echo {
     pub by1: f32,
     pub by2: f32,
 }
 
-#[derive(Drop)]
+#[derive(Clone, Copy)]
 pub struct Echoes {
     pub air: Echo,
     pub top: Echo,

@@ -2,6 +2,8 @@
 // the note's first pitch (Karplus and Strong). Three stages that draw nothing wrap the loop: a filter that damps or
 // brightens, the modes of a guitar's body, and the click of a pick; each does nothing at its default. It draws a period
 // of noise and then nothing.
+#![tactic(auto)]
+
 mod guitar; // guitar.rt: the tone of a note, and the resonances of the body
 mod pluck; // pluck.rt: the plucked string
 

@@ -14,20 +14,20 @@ use dsl::{PluckKnobs, Reading};
 use rng::Rng;
 
 // What the pick's highpass holds: its last input and output.
-#[derive(Drop)]
+#[derive(Clone, Copy)]
 pub struct Pick {
     pub hp_in: f32,
     pub hp_out: f32,
 }
 
-#[derive(Drop)]
+#[derive(Clone, Copy)]
 pub struct PickOut {
     pub sample: f32,
     pub state: Pick,
 }
 
 // What a frame hands to the next, beside the string.
-#[derive(Drop)]
+#[derive(Clone, Copy)]
 pub struct PluckState {
     pub echoes: Echoes,
     pub pick: Pick,
@@ -35,7 +35,7 @@ pub struct PluckState {
 }
 
 // A frame: its sample, what goes back into the string, and the state before the next frame.
-#[derive(Drop)]
+#[derive(Clone, Copy)]
 pub struct PluckOut {
     pub sample: f32,
     pub string: f32,

@@ -1,6 +1,8 @@
 // The string ensemble: three saws, detuned by 8 cents down and up and spread in phase, that swell in
 // like a bow stroke, made mellow by a one-pole lowpass. It goes by blocks of up to 64 frames: the swell first, then
 // the frames in order.
+#![tactic(auto)]
+
 ghost use Rattle.std.specs.Prelude.{◌≡◌, ◌+◌, ◌-◌, ◌≤◌, length, get_or};
 ghost use Rattle.std.specs.Float.{nan};
 ghost use Rattle.blocks.proofs.Carried.{Carried};
@@ -12,7 +14,7 @@ ghost use Rattle.voice_strings.specs.Block.{strings_by};
 use dsl::Reading;
 
 // The phases of the saws and the filter's memory.
-#[derive(Drop)]
+#[derive(Clone, Copy)]
 struct StringsState {
     low: f32,
     mid: f32,
@@ -20,7 +22,7 @@ struct StringsState {
     lp: f32,
 }
 
-#[derive(Drop)]
+#[derive(Clone, Copy)]
 struct StringsOut {
     sample: f32,
     state: StringsState,

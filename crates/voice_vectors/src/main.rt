@@ -1,11 +1,14 @@
 // Replays notes of every wave whose answers the original gave. A line of standard input names a
 // wave and gives style, rate, gain, state, frames, the pitches and duties of the first frames, of which the
 // last goes on, the knobs and the drawbars; the samples and the state after them are appended.
+#![tactic(auto)]
+
 ghost use Rattle.std.specs.Prelude.{◌≤◌, ◌<◌};
 
-use libc::STDIN_FILENO;
 use raw_knobs::VoiceAt;
 use rng::Rng;
+use std::io;
+use std::io::{BufWriter, Write};
 
 const FRAMES: usize = 128;
 
@@ -52,14 +55,15 @@ fn bar_values(line: &[u8], from: usize) -> [f32; 10]
     out
 }
 
-fn print_samples(out: &[f32; 128], frames: usize)
+fn print_samples<W: Write>(writer: &mut W, out: &[f32; 128], frames: usize) -> io::Result<()>
     requires { frames ≤ 128 }
 {
     let mut i = 0;
     while i < frames {
-        vectors::print_f32(out[i]);
+        vectors::print_f32(writer, out[i])?;
         i += 1;
     }
+    Ok(())
 }
 
 // Fills `out` with the line's note; the generator after it. Where the wave or the style is none, nothing changes.
@@ -84,7 +88,7 @@ fn sound(
     answer.rng
 }
 
-fn play(line: &[u8], frames: usize, count: usize)
+fn play<W: Write>(writer: &mut W, line: &[u8], frames: usize, count: usize) -> io::Result<()>
     requires { (0 < count) × (count ≤ 128) × (frames ≤ 128) }
 {
     let pitch = values(line, 8, count);
@@ -100,39 +104,42 @@ fn play(line: &[u8], frames: usize, count: usize)
         &duty[..frames],
         &mut out[..frames],
     );
-    print_samples(&out, frames);
-    vectors::print_u64(after.state());
+    print_samples(writer, &out, frames)?;
+    vectors::print_u64(writer, after.state())
 }
 
 // A line whose numbers are out of range gets no answer.
-fn replay_line(line: &[u8]) {
-    vectors::print_text(line);
+fn replay_line<W: Write>(writer: &mut W, line: &[u8]) -> io::Result<()> {
+    vectors::print_text(writer, line)?;
     let frames = vectors::u64_field(line, 6);
     let count = vectors::u64_field(line, 7);
     if frames <= 128 {
         if 0 < count {
             if count <= 128 {
-                play(line, frames as usize, count as usize);
+                play(writer, line, frames as usize, count as usize)?;
             }
         }
     }
-    vectors::print_text(b"\n");
+    vectors::print_text(writer, b"\n")
 }
 
-fn replay(text: &[u8]) {
+fn replay<W: Write>(writer: &mut W, text: &[u8]) -> io::Result<()> {
     let mut at = 0;
     while at < text.len() {
         let end = vectors::line_end(text, at);
-        replay_line(&text[at..end]);
+        replay_line(writer, &text[at..end])?;
         if end == text.len() {
-            return;
+            return Ok(());
         }
         at = end + 1;
     }
+    Ok(())
 }
 
-fn main() {
+fn main(rt: HostRuntime) -> io::Result<()> {
     let mut text = vectors::input_buffer();
-    let n = io::read_full(STDIN_FILENO, &mut text);
-    replay(&text[..n]);
+    let n = vectors::read_full(&mut rt.stdin(), &mut text)?;
+    let mut writer = BufWriter::new(rt.alloc(), rt.stdout())?;
+    replay(&mut writer, &text[..n])?;
+    writer.flush()
 }

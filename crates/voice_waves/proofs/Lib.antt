@@ -1,3 +1,4 @@
 mod Modulation
 mod Stepped
 mod Levels
+pub mod Ran

@@ -12,29 +12,29 @@ use Rattle.dsl.specs.declared.knobs.FmKnobs.{FmKnobs}
 use Rattle.dsp.specs.Kernels.{sin_of}
 use Rattle.frame_block.specs.Decay.{decay_at}
 use Rattle.voice_waves.specs.Fm.{fm_index, fm_at}
-use Rattle.voice_waves.specs.Block.{modulator_turn, carrier_turn, strike_of, fm_bent, fm_next, fm_reached}
+use Rattle.voice_waves.specs.Block.{modulator_turn_of, carrier_turn_of, strike_of, fm_bent, fm_bent_at, fm_next, fm_reached}
 use Rattle.voice_waves.specs.declared.modulated.FmState.{FmState}
 
 module _ (fi : Float) (knobs : FmKnobs) (gain srf : Float) (i : ℕ) (z : FmState) (c e s : List Float) (k : ℕ) where
   fm_sample :
       {y : Float} →
-      get_or c k nan ≡ carrier_turn z →
+      get_or c k nan ≡ carrier_turn_of z →
       get_or e k nan ≡ decay_at srf (strike_of knobs) i →
-      get_or s k nan ≡ sin_of (modulator_turn z) →
-      y ≡ sin_of (fm_bent knobs gain c e s k) →
+      get_or s k nan ≡ sin_of (modulator_turn_of z) →
+      y ≡ sin_of (fm_bent_at knobs gain c e s k) →
       y ≡ (fm_at fi knobs gain srf i z).sample
-  unfolding fm_at fm_index fm_bent
+  unfolding fm_at fm_index fm_bent fm_bent_at
   fm_sample a b d g = g ∙ rw (a, b, d)
 
 -- the frames from `from` on and before `end`
 module _ (f : ℕ → Float) (knobs : FmKnobs) (gain srf : Float) (from end : ℕ) (start : FmState) where
   pub fm_carried :
       {x c m e y s out₀ out : List Float} {r : FmState} →
-      Tabled (λ k. modulator_turn (fm_reached f knobs srf from start k)) nan 0 (end - from) x →
-      Tabled (λ k. carrier_turn (fm_reached f knobs srf from start k)) nan 0 (end - from) c →
+      Tabled (λ k. modulator_turn_of (fm_reached f knobs srf from start k)) nan 0 (end - from) x →
+      Tabled (λ k. carrier_turn_of (fm_reached f knobs srf from start k)) nan 0 (end - from) c →
       Tabled (λ k. sinf_of (get_or x k nan)) nan 0 (end - from) m →
       Tabled (decay_at srf (strike_of knobs)) nan from end e →
-      Tabled (fm_bent knobs gain c e m) nan 0 (end - from) y →
+      Tabled (fm_bent_at knobs gain c e m) nan 0 (end - from) y →
       Tabled (λ k. sinf_of (get_or y k nan)) nan 0 (end - from) s →
       from ≤ end →
       end ≤ length out₀ →

@@ -1,5 +1,5 @@
 -- The waves by blocks. A frame of each plain wave by what it reads: `dt`, how far its phase moves, and of the square its clamped duty.
-use Rattle.std.specs.Prelude.{ℕ, ◌+◌, List, Float, get_or}
+use Rattle.std.specs.Prelude.{ℕ, ◌+◌, List, [], ◌∷◌, Float, get_or}
 use Rattle.std.specs.Float.{binary32, nan}
 use Rattle.laws.specs.Run.{iterate}
 use Rattle.ieee.specs.Numbers.{c0·5, c1, c4, c0·001, c0·4, c0·6}
@@ -45,16 +45,28 @@ fm_next knobs s dt = record { cph = wrapped (s.cph ⊕ dt); mph = wrapped (s.mph
 abbrev pub fm_reached : (ℕ → Float) → FmKnobs → Float → ℕ → FmState → ℕ → FmState
 fm_reached f knobs srf from start k = iterate (λ k s. fm_next knobs s (increment (f (from + k)) srf)) start k
 
-abbrev pub modulator_turn : FmState → Float
-modulator_turn s = TAU ⊗ s.mph
+-- the two arguments, each as a row of one
+unfoldable pub modulator_turn : FmState → List Float
+modulator_turn s = (TAU ⊗ s.mph) ∷ []
 
-abbrev pub carrier_turn : FmState → Float
-carrier_turn s = TAU ⊗ s.cph
+unfoldable pub carrier_turn : FmState → List Float
+carrier_turn s = (TAU ⊗ s.cph) ∷ []
+
+-- the numbers of those rows
+abbrev pub modulator_turn_of : FmState → Float
+modulator_turn_of s = TAU ⊗ s.mph
+
+abbrev pub carrier_turn_of : FmState → Float
+carrier_turn_of s = TAU ⊗ s.cph
 
 -- the time constant of the level
 abbrev pub strike_of : FmKnobs → Float
 strike_of knobs = max_of knobs.fm_strike c0·001
 
--- the carrier's turns are in c, the levels in e, the inner sines in s
-unfoldable pub fm_bent : FmKnobs → Float → List Float → List Float → List Float → ℕ → Float
-fm_bent knobs gain c e s k = get_or c k nan ⊕ knobs.fm_index ⊗ (c0·4 ⊕ c0·6 ⊗ gain) ⊗ get_or e k nan ⊗ get_or s k nan
+-- by the carrier's turn c, the level e and the inner sine s
+unfoldable pub fm_bent : FmKnobs → Float → Float → Float → Float → Float
+fm_bent knobs gain c e s = c ⊕ knobs.fm_index ⊗ (c0·4 ⊕ c0·6 ⊗ gain) ⊗ e ⊗ s
+
+-- of frame k: the carrier's turns are in c, the levels in e, the inner sines in s
+unfoldable pub fm_bent_at : FmKnobs → Float → List Float → List Float → List Float → ℕ → Float
+fm_bent_at knobs gain c e s k = fm_bent knobs gain (get_or c k nan) (get_or e k nan) (get_or s k nan)

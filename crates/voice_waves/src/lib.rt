@@ -1,5 +1,7 @@
 // The waves that `seq_note_signal` of render/seq.rs writes in place, one function a wave. Each
 // fills the lent slice. The pitch and the duty are read through `dsl::Reading`; `srf` is the rate.
+#![tactic(auto)]
+
 mod modulated; // modulated.rt: fm
 mod plain; // plain.rt: sawtooth, sine
 mod pulse; // pulse.rt: square, triangle

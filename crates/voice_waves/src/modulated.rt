@@ -9,19 +9,19 @@ ghost use Rattle.blocks.proofs.Carried.{Carried};
 ghost use Rattle.dsl.specs.Domain.{Frames};
 ghost use Rattle.dsl.specs.Pitch.{pitch_at, reaches};
 ghost use Rattle.voice_waves.specs.Fm.{fm_at, fm_frames};
-ghost use Rattle.voice_waves.specs.Block.{modulator_turn, carrier_turn, fm_bent, fm_next, fm_reached};
+ghost use Rattle.voice_waves.specs.Block.{modulator_turn_of, carrier_turn_of, fm_bent_at, fm_next, fm_reached};
 
 use dsl::{FmKnobs, Reading};
 
 // The phases of the carrier and of the modulator.
-#[derive(Drop)]
+#[derive(Clone, Copy)]
 struct FmState {
     cph: f32,
     mph: f32,
 }
 
 // A frame of the definition.
-#[derive(Drop)]
+#[derive(Clone, Copy)]
 struct FmOut {
     sample: f32,
     state: FmState,
@@ -52,8 +52,8 @@ fn phases(
     requires n_bound { (n ≤ 64) × (length x.old ≡ 384) × (length c.old ≡ 384) }
     requires reaches { reaches pitch (length lane.now) (from + n) }
     ensures x_len { (length x.new ≡ 384) × (length c.new ≡ 384) }
-    ensures tabled { Tabled (λ k. modulator_turn (fm_reached (pitch_at pitch lane.now) knobs srf from start k)) nan 0 n x.new }
-    ensures tabled_2 { Tabled (λ k. carrier_turn (fm_reached (pitch_at pitch lane.now) knobs srf from start k)) nan 0 n c.new }
+    ensures tabled { Tabled (λ k. modulator_turn_of (fm_reached (pitch_at pitch lane.now) knobs srf from start k)) nan 0 n x.new }
+    ensures tabled_2 { Tabled (λ k. carrier_turn_of (fm_reached (pitch_at pitch lane.now) knobs srf from start k)) nan 0 n c.new }
     ensures value { result ≡ fm_reached (pitch_at pitch lane.now) knobs srf from start n }
 {
     let mut s = start;
@@ -78,7 +78,7 @@ fn bend(
     x: &mut [f32; 384],
 )
     requires { (n ≤ 64) × (length x.old ≡ 384) }
-    ensures { (length x.new ≡ 384) × Tabled (fm_bent knobs gain c.now e.now s.now) nan 0 n x.new }
+    ensures { (length x.new ≡ 384) × Tabled (fm_bent_at knobs gain c.now e.now s.now) nan 0 n x.new }
 {
     let mut k = 0usize;
     while k < n {

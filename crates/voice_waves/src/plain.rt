@@ -13,7 +13,7 @@ use dsl::Reading;
 use osc::Shape;
 
 // A frame of a voice whose state is one phase: its sample, and the phase before the next frame.
-#[derive(Drop)]
+#[derive(Clone, Copy)]
 pub struct PhaseOut {
     pub sample: f32,
     pub state: f32,

@@ -135,13 +135,13 @@ pub fn square(
     }
 }
 
-#[derive(Drop)]
+#[derive(Clone, Copy)]
 pub struct TriangleState {
     pub phase: f32,
     pub tri: f32,
 }
 
-#[derive(Drop)]
+#[derive(Clone, Copy)]
 pub struct TriangleOut {
     pub sample: f32,
     pub state: TriangleState,

@@ -1,5 +1,5 @@
 -- What `wave` makes of its input.
-use Rattle.std.specs.Prelude.{ℕ, ◌≡◌, List, ◌++◌, length, take, drop}
+use Rattle.std.specs.Prelude.{ℕ, ◌≡◌, List, [], ◌++◌, length, take, drop}
 use Rattle.text_listing.specs.Lines.{printed_r}
 use Rattle.wave_file.specs.Refusal.{FileResult, refused, accepted}
 use Rattle.text_wave.specs.TextFile.{text_file}
@@ -20,6 +20,16 @@ sent_of (accepted bytes) = File (length bytes)
 abbrev pub written : Sent → ℕ
 written (File n) = n
 written (Line n) = n
+
+-- what of `file` goes to standard output
+abbrev pub to_out : Sent → List ℕ → List ℕ
+to_out (File n) file = take n file
+to_out (Line n) file = []
+
+-- and what of it goes to standard error
+abbrev pub to_err : Sent → List ℕ → List ℕ
+to_err (File n) file = []
+to_err (Line n) file = take n file
 
 -- What is put into `file₀` for a text, and left as `file`: the bytes that go out, and after them what stood there. No room above 8,250 bytes makes another file (the law `room_enough`
 -- of text_wave).

@@ -1,16 +1,20 @@
 // Reads a text score from standard input and writes the WAVE file of its frames to standard output. Of
 // a score that is refused it writes nothing there, and the line R with the number to standard error.
-ghost use Rattle.std.specs.Prelude.{◌≡◌, ◌<◌, ◌≤◌, length};
-ghost use Rattle.io.specs.Counts.{IsPrefixLen};
-ghost use Rattle.wave.specs.Input.{written, Shown, InputFiled};
+#![tactic(auto)]
 
-use libc::{STDERR_FILENO, STDOUT_FILENO};
+ghost use Rattle.std.specs.Prelude.{◌≡◌, ◌<◌, ◌≤◌, length, OnOk};
+ghost use Rattle.std.specs.Io.KnownBytes.{Appends};
+ghost use Rattle.programs.specs.Counts.{IsPrefixLen};
+ghost use Rattle.wave.specs.Input.{written, to_out, to_err, Shown, InputFiled};
+
 use programs::{Input, input_buffer, read_input};
+use std::io;
+use std::io::Write;
 use text_listing::put_refusal;
 use text_wave::TextWave;
 
 // How many bytes of the file buffer go out: a file, or the line of a refusal.
-#[derive(Drop)]
+#[derive(Clone, Copy)]
 enum Sent {
     File(usize),
     Line(usize),
@@ -46,23 +50,22 @@ fn file_input(score: &[u8], input: Input, file: &mut [u8]) -> Sent
     put_file(&score[..read], file)
 }
 
-fn answer(said: Sent, file: &[u8])
+// A file goes to `out`, the line of a refusal to `err`.
+fn answer<O: Write, E: Write>(out: &mut O, err: &mut E, said: Sent, file: &[u8]) -> io::Result<()>
     requires { written said ≤ length file.now }
+    ensures file_out { OnOk result (Appends (O.contents out.old) (O.contents out.new) (to_out said file.now)) }
+    ensures line_out { OnOk result (Appends (E.contents err.old) (E.contents err.new) (to_err said file.now)) }
 {
     match said {
-        Sent::File(length) => {
-            io::write_all(STDOUT_FILENO, &file[..length]);
-        }
-        Sent::Line(length) => {
-            io::write_all(STDERR_FILENO, &file[..length]);
-        }
+        Sent::File(length) => out.write_all(&file[..length]),
+        Sent::Line(length) => err.write_all(&file[..length]),
     }
 }
 
-fn main() {
+fn main(rt: HostRuntime) -> io::Result<()> {
     let mut score = input_buffer();
-    let input = read_input(&mut score);
+    let input = read_input(&mut rt.stdin(), &mut score)?;
     let mut file = file_buffer();
     let said = file_input(&score, input, &mut file);
-    answer(said, &file);
+    answer(&mut rt.stdout(), &mut rt.stderr(), said, &file)
 }

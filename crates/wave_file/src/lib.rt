@@ -1,5 +1,7 @@
 // WAVE files: numbers in bytes, the names of chunks, and what refuses a file. `wave_write` writes
 // files and `wave_read` reads them.
+#![tactic(auto)]
+
 mod bytes; // bytes.rt: little-endian numbers at a place of a file
 mod chunk; // chunk.rt: the names of chunks
 mod refusal; // refusal.rt: why a file is neither written nor read

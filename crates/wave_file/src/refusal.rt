@@ -2,7 +2,7 @@
 ghost use Rattle.std.specs.Prelude.{◌≡◌};
 ghost use Rattle.wave_file.specs.Refusal.{number_of};
 
-#[derive(Drop)]
+#[derive(Clone, Copy)]
 pub enum FileRefusal {
     Rate, // writing: outside 8,000 to 192,000
     Frames, // writing: more than 16,777,216 samples

@@ -7,7 +7,7 @@ use borrow.Author.Tests.{lt-ltb, le-ltb}
 use lib.ListN.{length, take, drop}
 use lib.Seq.{length-take-le, take_at}
 use Rattle.laws.proofs.If.{if_true, if_false}
-use Rattle.io.specs.Counts.{IsPrefixLen}
+use Rattle.programs.specs.Counts.{IsPrefixLen}
 use Rattle.text_listing.specs.Lines.{printed_r, lines_of}
 use Rattle.text_listing.specs.Printed.{Printed, FramesRoom}
 use Rattle.text_listing.proofs.Put.{printed_as, printed_fits}

@@ -1,12 +1,15 @@
 // Reads a WAVE file from standard input and prints a line for each sample: F, its index and its own
 // bits. Of a file that is refused it prints one line, R and the number.
+#![tactic(auto)]
+
 ghost use Rattle.std.specs.Prelude.{◌≡◌, ◌≤◌, ◌<◌, length};
-ghost use Rattle.io.specs.Counts.{IsPrefixLen};
+ghost use Rattle.programs.specs.Counts.{IsPrefixLen};
 ghost use Rattle.text_listing.specs.Printed.{Printed};
 ghost use Rattle.wave_frames.specs.Input.{file_lines, InputShown};
 
-use libc::STDOUT_FILENO;
 use programs::{Input, input_buffer, read_input};
+use std::io;
+use std::io::Write;
 use text_listing::{put_lines, put_refusal};
 use wave_read::WaveRead;
 
@@ -52,11 +55,11 @@ fn show_input(file: &[u8], input: Input, samples: &mut [u32], page: &mut [u8]) -
     put_file_lines(&file[..read], samples, page)
 }
 
-fn main() {
+fn main(rt: HostRuntime) -> io::Result<()> {
     let mut file = input_buffer();
-    let input = read_input(&mut file);
+    let input = read_input(&mut rt.stdin(), &mut file)?;
     let mut samples = samples_buffer();
     let mut page = page_buffer();
     let written = show_input(&file, input, &mut samples, &mut page);
-    io::write_all(STDOUT_FILENO, &page[..written]);
+    rt.stdout().write_all(&page[..written])
 }

@@ -7,21 +7,21 @@ ghost use Rattle.wave_read.specs.Walked.{Whole, step_in, Stepped};
 use wave_file::{DATA, FACT, FMT, FileRefusal, u16_at, u32_at};
 
 // A number of a chunk that comes before the samples.
-#[derive(Drop)]
+#[derive(Clone, Copy)]
 pub enum Given {
     Missing,
     Is(u32),
 }
 
 // What was met of a file: fmt's rate and fact's count.
-#[derive(Drop)]
+#[derive(Clone, Copy)]
 pub struct Met {
     pub rate: Given,
     pub count: Given,
 }
 
 // What a chunk comes to: a fault; the next chunk, with what was met; or the samples are here.
-#[derive(Drop)]
+#[derive(Clone, Copy)]
 pub enum Step {
     Fault(FileRefusal),
     Next(Met),

@@ -1,4 +1,6 @@
 // Reads a WAVE file of mono 32-bit float samples, which are handed over as bit patterns.
+#![tactic(auto)]
+
 mod chunks; // chunks.rt: one chunk, by its name
 mod read; // read.rt: the call
 mod samples; // samples.rt: the samples

@@ -6,7 +6,7 @@ use crate::walk::{Found, find_samples};
 use wave_file::FileRefusal;
 
 // The file's rate and the number of its samples, or why nothing was read.
-#[derive(Drop)]
+#[derive(Clone, Copy)]
 pub enum WaveRead {
     Samples { rate: u32, count: usize },
     Refused(FileRefusal),

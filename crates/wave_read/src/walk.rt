@@ -8,7 +8,7 @@ use crate::chunks::{Given, Met, Step, chunk_at};
 use wave_file::{FileRefusal, RIFF, WAVE, u32_at};
 
 // Where a file's samples start, and what was met before them; or its first fault.
-#[derive(Drop)]
+#[derive(Clone, Copy)]
 pub enum Found {
     Broken(FileRefusal),
     At {

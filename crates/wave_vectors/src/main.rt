@@ -4,9 +4,12 @@
 // and then as many bytes as LENGTH says: a file, or samples of four bytes each. ROOM is how many values
 // or bytes are lent, each a point before the call. The line is written again with the call's answer;
 // then, of a read, the rate and the samples lent, and of a write the bytes lent.
-ghost use Rattle.std.specs.Prelude.{◌≤◌, ◌<◌, length};
+#![tactic(auto)]
 
-use libc::{STDIN_FILENO, STDOUT_FILENO};
+ghost use Rattle.std.specs.Prelude.{◌≤◌, ◌<◌, length, IfOk};
+
+use std::io;
+use std::io::{BufWriter, Write};
 use wave_file::u32_at;
 
 // The most samples of a case, and the most bytes that are lent for its file.
@@ -17,48 +20,59 @@ const MOST_BYTES: usize = 256;
 // What lent places hold before a call.
 const POINTS: u32 = 0x2e2e_2e2e;
 
-fn print_sample(x: u32) {
-    vectors::print_u64(x as u64);
+fn print_sample<W: Write>(writer: &mut W, x: u32) -> io::Result<()> {
+    vectors::print_u64(writer, x as u64)
 }
 
-fn print_byte(b: u8) {
-    vectors::print_text(b" ");
-    io::print_hex(STDOUT_FILENO, b as u64, 2);
+fn print_byte<W: Write>(writer: &mut W, b: u8) -> io::Result<()> {
+    write!(writer, " {b:02x}")
 }
 
-fn print_samples(samples: &[u32]) {
+fn print_samples<W: Write>(writer: &mut W, samples: &[u32]) -> io::Result<()> {
     let mut i = 0;
     while i < samples.len() {
-        print_sample(samples[i]);
+        print_sample(writer, samples[i])?;
         i += 1;
     }
+    Ok(())
 }
 
-fn print_bytes(bytes: &[u8]) {
+fn print_bytes<W: Write>(writer: &mut W, bytes: &[u8]) -> io::Result<()> {
     let mut i = 0;
     while i < bytes.len() {
-        print_byte(bytes[i]);
+        print_byte(writer, bytes[i])?;
         i += 1;
     }
+    Ok(())
 }
 
-fn read_call(line: &[u8], file: &[u8], samples: &mut [u32]) {
+fn read_call<W: Write>(
+    writer: &mut W,
+    line: &[u8],
+    file: &[u8],
+    samples: &mut [u32],
+) -> io::Result<()> {
     let mut rate = POINTS;
     let answer = tono_wave::read(file, &mut rate, samples);
-    vectors::print_text(line);
-    vectors::print_i64(answer);
-    vectors::print_u64(rate as u64);
-    print_samples(samples);
-    vectors::print_text(b"\n");
+    vectors::print_text(writer, line)?;
+    vectors::print_i64(writer, answer)?;
+    vectors::print_u64(writer, rate as u64)?;
+    print_samples(writer, samples)?;
+    vectors::print_text(writer, b"\n")
 }
 
-fn write_call(line: &[u8], samples: &[u32], file: &mut [u8]) {
+fn write_call<W: Write>(
+    writer: &mut W,
+    line: &[u8],
+    samples: &[u32],
+    file: &mut [u8],
+) -> io::Result<()> {
     let rate = vectors::u32_field(line, 3);
     let answer = tono_wave::write(rate, samples, file);
-    vectors::print_text(line);
-    vectors::print_i64(answer);
-    print_bytes(file);
-    vectors::print_text(b"\n");
+    vectors::print_text(writer, line)?;
+    vectors::print_i64(writer, answer)?;
+    print_bytes(writer, file)?;
+    vectors::print_text(writer, b"\n")
 }
 
 // The numbers in whole groups of four bytes, at the start of `samples`; how many there are.
@@ -76,58 +90,62 @@ fn samples_in(bytes: &[u8], samples: &mut [u32]) -> usize
     i
 }
 
-fn read_case(line: &[u8], file: &[u8]) {
+fn read_case<W: Write>(writer: &mut W, line: &[u8], file: &[u8]) -> io::Result<()> {
     let room = vectors::length_field(line, 2, MOST_SAMPLES);
     let mut samples = [POINTS; 32];
-    read_call(line, file, &mut samples[..room]);
+    read_call(writer, line, file, &mut samples[..room])
 }
 
-fn write_case(line: &[u8], samples: &[u32]) {
+fn write_case<W: Write>(writer: &mut W, line: &[u8], samples: &[u32]) -> io::Result<()> {
     let room = vectors::length_field(line, 2, MOST_BYTES);
     let mut file = [b'.'; 256];
-    write_call(line, samples, &mut file[..room]);
+    write_call(writer, line, samples, &mut file[..room])
 }
 
-fn write_bytes(line: &[u8], bytes: &[u8]) {
+fn write_bytes<W: Write>(writer: &mut W, line: &[u8], bytes: &[u8]) -> io::Result<()> {
     let mut samples = [0; 32];
     let count = samples_in(bytes, &mut samples);
-    write_case(line, &samples[..count]);
+    write_case(writer, line, &samples[..count])
 }
 
-fn replay_case(line: &[u8], bytes: &[u8]) {
+fn replay_case<W: Write>(writer: &mut W, line: &[u8], bytes: &[u8]) -> io::Result<()> {
     if vectors::is_named(line, b"read") {
-        read_case(line, bytes);
+        read_case(writer, line, bytes)?;
     } else {
-        write_bytes(line, bytes);
+        write_bytes(writer, line, bytes)?;
     }
+    Ok(())
 }
 
 // The place after the case at `at`: its line, and its bytes, or as many as are left.
-fn replay_from(input: &[u8], at: usize) -> usize
+fn replay_from<W: Write>(writer: &mut W, input: &[u8], at: usize) -> io::Result<usize>
     requires { at < length input.now }
-    ensures { (at < result) × (result ≤ length input.now) }
+    ensures { IfOk result (λ next. (at < next) × (next ≤ length input.now)) }
 {
     let end = vectors::line_end(input, at);
     if end == input.len() {
-        return end;
+        return Ok(end);
     }
     let start = end + 1;
     let line = &input[at..end];
     let length = vectors::length_field(line, 1, input.len() - start);
     let stop = start + length;
-    replay_case(line, &input[start..stop]);
-    stop
+    replay_case(writer, line, &input[start..stop])?;
+    Ok(stop)
 }
 
-fn replay(input: &[u8]) {
+fn replay<W: Write>(writer: &mut W, input: &[u8]) -> io::Result<()> {
     let mut at = 0;
     while at < input.len() {
-        at = replay_from(input, at);
+        at = replay_from(writer, input, at)?;
     }
+    Ok(())
 }
 
-fn main() {
+fn main(rt: HostRuntime) -> io::Result<()> {
     let mut input = vectors::input_buffer();
-    let n = io::read_full(STDIN_FILENO, &mut input);
-    replay(&input[..n]);
+    let n = vectors::read_full(&mut rt.stdin(), &mut input)?;
+    let mut writer = BufWriter::new(rt.alloc(), rt.stdout())?;
+    replay(&mut writer, &input[..n])?;
+    writer.flush()
 }

@@ -9,7 +9,7 @@ use crate::samples::put_samples;
 use wave_file::FileRefusal;
 
 // The file's length, or why nothing was written.
-#[derive(Drop)]
+#[derive(Clone, Copy)]
 pub enum Written {
     Bytes(usize),
     Refused(FileRefusal),

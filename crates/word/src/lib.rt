@@ -1,4 +1,6 @@
 // Operations on 64-bit words that Rust has as methods and Rattle does not.
+#![tactic(auto)]
+
 ghost use Rattle.std.specs.Prelude.{◌≡◌, ◌*◌, ◌%◌, ◌^◌};
 ghost use Rattle.word.specs.Rotate.{rotated};
 

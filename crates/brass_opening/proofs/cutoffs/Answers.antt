@@ -1,0 +1,19 @@
+-- `brass_opening::cutoffs` meets its contract. Assumes nothing.
+use borrow.Author.Rules.{rules}
+use native.Mathlib.Omega.{arith}
+use mathlib.Core.Path.{◌≡◌}
+use Prim.Native.Nat.{◌-◌, ◌≤◌}
+use lib.ListN.{length, length-set, get_or}
+use lib.Ieee.{nan}
+use Rattle.blocks.proofs.Block.{Tabled, tabled_none, tabled_next, tabled_all}
+use Rattle.brass_opening.specs.Opening.{cutoff_by}
+use Rattle.brass_opening.proofs.cutoffs.Goals as goal
+
+pub loop-i-init : goal.loop-i-init
+loop-i-init c = (omega arith, c.requires, tabled_none)
+
+pub loop-i-preserved : goal.loop-i-preserved
+loop-i-preserved c = (omega arith, rw length-set c.loop-i.invariant.1, tabled_next c.loop-i.invariant.2 (omega arith) c.cutoff.ensures)
+
+pub returns : goal.returns
+returns c = tabled_all c.loop-i.invariant.2 (omega arith)

@@ -1,0 +1,8 @@
+-- `det::special::not_a_number` meets its contract. Assumes nothing.
+use mathlib.Core.Path.{refl}
+use lib.Ieee.{div, of_bits}
+use Rattle.det.proofs.special.not_a_number.Goals as goal
+
+pub returns : goal.returns
+unfolding div of_bits
+returns c = refl

@@ -1,0 +1,16 @@
+-- The loops of `exp_block::exp_all`.
+use borrow.Author.Rules.{rules}
+use native.Mathlib.Omega.{arith}
+use mathlib.Core.Path.{◌≡◌}
+use Prim.Native.Nat.{◌-◌, ◌≤◌}
+use lib.ListN.{length, length-set, get_or}
+use lib.Ieee.{nan}
+use Rattle.det.specs.Single.{expf_of}
+use Rattle.blocks.proofs.Block.{Tabled, tabled_next, tabled_all}
+use Rattle.exp_block.proofs.exp_all.Given as goal
+
+abbrev pub invariant-loop-i : goal.invariant-loop-i
+invariant-loop-i l = (l.first ≤ l.i) × (l.i ≤ 64) × (length l.out ≡ 64) × Tabled (λ k. expf_of (get_or l.x k nan)) nan 0 l.i l.out
+
+abbrev pub decreases-loop-i : goal.decreases-loop-i
+decreases-loop-i l = 64 - l.i

@@ -1,0 +1,19 @@
+-- `frame_block::part::decays_part` meets its contract. Assumes nothing.
+use borrow.Author.Rules.{rules}
+use native.Mathlib.Omega.{arith}
+use mathlib.Core.Path.{◌≡◌}
+use Prim.Native.Nat.{◌-◌, ◌≤◌}
+use lib.ListN.{length, length-set}
+use lib.Ieee.{nan}
+use Rattle.blocks.proofs.Block.{Tabled, tabled_none, tabled_more, tabled_all}
+use Rattle.frame_block.specs.Decay.{decay_at}
+use Rattle.frame_block.proofs.part.decays_part.Goals as goal
+
+pub loop-i-init : goal.loop-i-init
+loop-i-init c = (omega arith, omega arith, c.requires.a_len, tabled_none)
+
+pub loop-i-preserved : goal.loop-i-preserved
+loop-i-preserved c = (omega arith, omega arith, rw length-set c.loop-i.invariant.2, tabled_more c.loop-i.invariant.3 (omega arith) (omega arith) c.level-x.ensures)
+
+pub returns : goal.returns
+returns c = (c.loop-i.invariant.2, tabled_all c.loop-i.invariant.3 (omega arith))

@@ -1,0 +1,39 @@
+-- `harness_board::run::run_board` meets its contract. Assumes nothing.
+use mathlib.Core.Path.{◌≡◌, ◌∙◌, refl, ap}
+use Prim.Native.Nat.{◌+◌, ◌*◌, ◌-◌, ◌/◌, ◌<◌}
+use lib.ListN.{length}
+use lib.Seq.{lt-length-set}
+use borrow.Author.Tests.{not-true, not-false}
+use Rattle.board.specs.Registers.{digit}
+use native.Mathlib.Omega.{arith}
+use borrow.Author.Rules.{rules}
+use Rattle.harness_board.proofs.Going.{Going, going_none, going_more, going_halt, going_full}
+use Rattle.harness_board.proofs.run.run_board.Goals as goal
+
+pub loop-done-init : goal.loop-done-init
+loop-done-init c = (going_none _ _ _ c.new-board.ensures, refl)
+
+pub shape_of-answers-then-not-step : goal.shape_of-answers-then-not-step
+shape_of-answers-then-not-step c = c.loop-done.invariant.0.kept
+
+pub returns-then-not-step : goal.returns-then-not-step
+returns-then-not-step c = going_halt c.loop-done.invariant.0 c.step_at-step.result c.step_at-step.ensures (omega arith) (not-true _ c.if-not-step.true)
+
+pub bounds-answers-done-in-loop-done : goal.bounds-answers-done-in-loop-done
+bounds-answers-done-in-loop-done c =
+    let d = c.loop-done in
+    let h : 2 * d.done + 1 < length d.answers = omega (arith, d.invariant.0.kept) in
+    lt-length-set d.answers (2 * d.done) _ h
+
+pub loop-done-preserved : goal.loop-done-preserved
+loop-done-preserved c =
+    let s = c.step_at-step in
+    let h = c.loop-done.invariant in
+    let line = c.bit.ensures ∙ ap digit c.interrupt.ensures in
+    (going_more h.0 s.result s.ensures (omega arith) (not-false _ c.if-not-step.false) _ line, h.1)
+
+pub shape_of-answers : goal.shape_of-answers
+shape_of-answers c = c.loop-done.invariant.0.kept
+
+pub returns : goal.returns
+returns c = going_full c.loop-done.invariant.0 (omega arith)

@@ -1,0 +1,17 @@
+-- `kit_808::drums::beater_click` meets its contract. Assumes nothing.
+use mathlib.Core.Path.{refl}
+use Rattle.laws.proofs.If.{if_true, if_false}
+use Rattle.kit_parts.proofs.Generator.{at_state}
+use Rattle.kit_808.specs.Drums.{eight08_click}
+use Rattle.kit_808.proofs.drums.beater_click.Goals as goal
+
+pub returns-then-t : goal.returns-then-t
+unfolding eight08_click
+returns-then-t c =
+    let d = c.bi-d.ensures in
+    let taken = c.if-t.true in
+    (if_true _ taken (rw (c.exp.ensures, c.sin.ensures, d.0)), at_state (if_true _ taken d.1))
+
+pub returns : goal.returns
+unfolding eight08_click
+returns c = (if_false _ c.if-t.false refl, at_state (if_false _ c.if-t.false refl))

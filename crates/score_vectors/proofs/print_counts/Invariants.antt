@@ -1,0 +1,9 @@
+-- `print_counts` ends, and stays within what it reads and fills.
+use Rattle.std.proofs.Common.{◌-◌, ◌≤◌}
+use Rattle.score_vectors.proofs.print_counts.Given as goal
+
+abbrev pub invariant-loop-k : goal.invariant-loop-k
+invariant-loop-k g l = l.k ≤ 8
+
+abbrev pub decreases-loop-k : goal.decreases-loop-k
+decreases-loop-k g l = 8 - l.k

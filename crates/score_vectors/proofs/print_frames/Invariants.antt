@@ -1,0 +1,9 @@
+-- `print_frames` ends, and stays within what it reads and fills.
+use Rattle.std.proofs.Common.{◌-◌, ◌≤◌}
+use Rattle.score_vectors.proofs.print_frames.Given as goal
+
+abbrev pub invariant-loop-i : goal.invariant-loop-i
+invariant-loop-i g l = l.i ≤ l.n
+
+abbrev pub decreases-loop-i : goal.decreases-loop-i
+decreases-loop-i g l = l.n - l.i

@@ -1,0 +1,16 @@
+-- `sin_block::block::sinf_block` meets its contract. Assumes nothing.
+use mathlib.Core.Path.{◌≡◌, refl}
+use mathlib.Core.Bool.{Bool, true, false, not, true≢false}
+use borrow.Author.Rules.{rules}
+use Rattle.sin_block.proofs.block.sinf_block.Goals as goal
+
+held : (b : Bool) → not b ≡ false → b ≡ true
+held true e = refl
+held false e = absurd (true≢false e)
+
+pub returns-else-not-covered : goal.returns-else-not-covered
+returns-else-not-covered c =
+    record {
+      near_len = c.covered.ensures.near_len;
+      tabled = c.covered.ensures.tabled (held _ c.if-not-covered.false-raw);
+    }

@@ -1,0 +1,21 @@
+-- The loops of `voice_bell::bell_note`.
+use native.Mathlib.Omega.{arith}
+use Prim.Native.Nat.{◌-◌, ◌≤◌}
+use mathlib.Core.Path.{◌≡◌, refl}
+use lib.ListN.{length}
+use Rattle.blocks.proofs.Carried.{Carried, carried_none, carried_then, carried_all, carried_note}
+use Rattle.dsl.specs.Pitch.{pitch_at}
+use Rattle.dsl.proofs.Reach.{reaches_less}
+use Rattle.voice_bell.specs.Bell.{bell_at, bell_frames}
+use borrow.Author.Rules.{rules}
+use Rattle.voice_bell.proofs.bell_note.Given as goal
+
+abbrev pub invariant-loop-i : goal.invariant-loop-i
+invariant-loop-i l =
+    (l.i ≤ length l.initial.out)
+    × ((length l.x ≡ 384) × (length l.near ≡ 384) × (length l.q ≡ 384) × (length l.wide ≡ 384) × (length l.s ≡ 384))
+    × ((length l.e0 ≡ 64) × (length l.e1 ≡ 64) × (length l.e2 ≡ 64) × (length l.e3 ≡ 64) × (length l.e4 ≡ 64))
+    × Carried (λ i. bell_at (pitch_at l.pitch l.lane i) l.srf i) (λ o. o.sample) (λ o. o.state) 0 l.i l.initial.out l.initial.state l.out l.state
+
+abbrev pub decreases-loop-i : goal.decreases-loop-i
+decreases-loop-i l = length l.initial.out - l.i

@@ -1,0 +1,24 @@
+-- The loops of `voice_flute::flute_note`.
+use native.Mathlib.Omega.{arith}
+use Prim.Native.Nat.{◌-◌, ◌^◌, ◌≤◌, ◌<◌}
+use mathlib.Core.Path.{◌≡◌, refl, ap, ◌∙◌}
+use lib.ListN.{length}
+use Rattle.laws.proofs.Fill.{filled_none, filled_state}
+use Rattle.blocks.proofs.Carried.{Carried, carried_none, carried_then, carried_all, carried_note}
+use Rattle.dsl.specs.Pitch.{pitch_at}
+use Rattle.dsl.proofs.Reach.{reaches_less}
+use Rattle.voice_flute.specs.declared.FluteState.{FluteState}
+use Rattle.voice_flute.specs.Flute.{flute_at, flute_frames}
+use Rattle.voice_flute.proofs.Flute.{flute_draws}
+use borrow.Author.Rules.{rules}
+use Rattle.voice_flute.proofs.flute_note.Given as goal
+
+abbrev pub invariant-loop-i : goal.invariant-loop-i
+invariant-loop-i l =
+    (l.i ≤ length l.initial.out)
+    × ((length l.x ≡ 384) × (length l.near ≡ 384) × (length l.q ≡ 384) × (length l.wide ≡ 384) × (length l.s ≡ 384))
+    × ((length l.e ≡ 64) × (length l.b ≡ 64))
+    × Carried (λ i. flute_at (pitch_at l.pitch l.lane i) l.gain l.srf l.lp_a i) (λ o. o.sample) (λ o. o.state) 0 l.i l.initial.out l.initial.state l.out l.state
+
+abbrev pub decreases-loop-i : goal.decreases-loop-i
+decreases-loop-i l = length l.initial.out - l.i

@@ -1,0 +1,20 @@
+-- `voice_organ::fourths` meets its contract. Assumes nothing.
+use native.Mathlib.Omega.{arith}
+use mathlib.Core.Path.{◌≡◌, refl}
+use Prim.Native.Nat.{◌+◌, ◌-◌, ◌*◌, ◌≤◌}
+use lib.ListN.{length, length-set, get_or}
+use lib.Ieee.{nan}
+use Rattle.blocks.proofs.Block.{Tabled, tabled_none, tabled_next, tabled_all}
+use borrow.Author.Rules.{rules}
+use Rattle.voice_organ.proofs.fourths.Goals as goal
+
+pub loop-k-init : goal.loop-k-init
+loop-k-init c = (omega arith, c.requires.1, tabled_none)
+
+pub loop-k-preserved : goal.loop-k-preserved
+loop-k-preserved c =
+    let v = c.loop-k.invariant in
+    (omega arith, rw length-set v.1, tabled_next v.2 (omega (arith, v.1)) refl)
+
+pub returns : goal.returns
+returns c = (c.loop-k.invariant.1, tabled_all c.loop-k.invariant.2 (omega arith))

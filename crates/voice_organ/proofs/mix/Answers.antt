@@ -1,0 +1,22 @@
+-- `voice_organ::mix` meets its contract. Assumes nothing.
+use native.Mathlib.Omega.{arith}
+use Prim.Native.Nat.{◌-◌}
+use Rattle.blocks.proofs.Carried.{Storing, storing_none, storing_more, storing_length, storing_all}
+use Rattle.voice_organ.specs.Block.{organ_mix_at}
+use borrow.Author.Rules.{rules}
+use Rattle.voice_organ.proofs.mix.Goals as goal
+
+pub loop-k-init : goal.loop-k-init
+loop-k-init c = storing_none
+
+pub bounds-out-from : goal.bounds-out-from
+bounds-out-from c = let l = c.loop-k-test.true in omega (arith, storing_length c.loop-k.invariant)
+
+pub loop-k-preserved : goal.loop-k-preserved
+loop-k-preserved c = storing_more c.loop-k.invariant c.loop-k-test.true c.organ_mix.ensures
+
+pub shape_of-out : goal.shape_of-out
+shape_of-out c = storing_length c.loop-k.invariant
+
+pub returns : goal.returns
+returns c = storing_all c.loop-k.invariant c.loop-k-test.false

@@ -1,0 +1,44 @@
+-- `voice_organ::organ_note` meets its contract: each block carries the note on. Assumes nothing.
+use native.Mathlib.Omega.{arith}
+use Prim.Native.Nat.{◌-◌, ◌≤◌}
+use mathlib.Core.Path.{◌≡◌, refl}
+use lib.ListN.{length}
+use Rattle.blocks.proofs.Carried.{Carried, carried_none, carried_then, carried_all, carried_note}
+use Rattle.dsl.specs.Pitch.{pitch_at}
+use Rattle.dsl.proofs.Reach.{reaches_less}
+use Rattle.voice_organ.specs.Organ.{organ_at}
+use Rattle.voice_organ.proofs.Organ.{organ_frames_lem}
+use borrow.Author.Rules.{rules}
+use Rattle.voice_organ.proofs.organ_note.Goals as goal
+
+pub loop-i-init : goal.loop-i-init
+loop-i-init c = (omega arith, (refl, refl, refl, refl, refl), (refl, refl, refl), carried_none)
+
+pub organ_block-state-requires : goal.organ_block-state-requires
+organ_block-state-requires c =
+    let v = c.loop-i.invariant in
+    let end = c.block_end-end.ensures in
+    record {
+      from_le_end = (omega (arith, end), omega (arith, end), omega (arith, end));
+      reaches = reaches_less c.args.pitch _ _ _ c.requires.reaches (omega (arith, end, v.3.kept));
+      x_len = v.1;
+      y_len = v.2;
+    }
+
+pub loop-i-smaller : goal.loop-i-smaller
+loop-i-smaller c =
+    omega (arith, c.block_end-end.ensures, c.loop-i.invariant.3.kept)
+
+pub loop-i-preserved : goal.loop-i-preserved
+loop-i-preserved c =
+    let v = c.loop-i.invariant in
+    (omega (arith, c.block_end-end.ensures, v.3.kept), c.organ_block-state.ensures.x_len_2, c.organ_block-state.ensures.y_len_2, carried_then v.3 c.organ_block-state.ensures.carried)
+
+pub shape_of-out : goal.shape_of-out
+shape_of-out c = c.loop-i.invariant.3.kept
+
+pub returns : goal.returns
+returns c =
+    let v = c.loop-i.invariant in
+    organ_frames_lem c.args.bars (pitch_at c.args.pitch c.args.lane.now) c.args.srf (length c.args.out.now) c.norm_of-norm.ensures
+    (carried_note (carried_all v.3 (omega (arith, v.0, v.3.kept))) refl)

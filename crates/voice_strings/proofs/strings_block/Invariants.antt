@@ -1,0 +1,18 @@
+-- The loops of `voice_strings::strings_block`.
+use Prim.Native.Nat.{◌-◌, ◌≤◌}
+use native.Mathlib.Omega.{arith}
+use borrow.Author.Rules.{rules}
+use lib.Ieee.{nan}
+use lib.ListN.{get_or}
+use Rattle.blocks.proofs.Carried.{Carried, carried_none, carried_more, carried_all}
+use Rattle.dsl.specs.Pitch.{pitch_at}
+use Rattle.dsl.proofs.Reach.{reaches_less}
+use Rattle.voice_strings.specs.Block.{strings_by}
+use Rattle.voice_strings.proofs.strings_block.Given as goal
+
+abbrev pub invariant-loop-i : goal.invariant-loop-i
+invariant-loop-i l =
+    (l.i ≤ l.end) × Carried (λ i. strings_by (get_or l.e (i - l.from) nan) (pitch_at l.pitch l.lane i) l.srf l.lp_a) (λ o. o.sample) (λ o. o.state) l.from l.i l.initial.out l.initial.s l.out l.s
+
+abbrev pub decreases-loop-i : goal.decreases-loop-i
+decreases-loop-i l = l.end - l.i

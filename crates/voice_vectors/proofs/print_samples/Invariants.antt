@@ -1,0 +1,9 @@
+-- `print_samples` ends, and stays within what it reads and fills.
+use Rattle.std.proofs.Common.{◌-◌, ◌≤◌}
+use Rattle.voice_vectors.proofs.print_samples.Given as goal
+
+abbrev pub invariant-loop-i : goal.invariant-loop-i
+invariant-loop-i g l = l.i ≤ l.frames
+
+abbrev pub decreases-loop-i : goal.decreases-loop-i
+decreases-loop-i g l = l.frames - l.i

@@ -1,0 +1,23 @@
+-- `voice_waves::pulse::triangle_block` meets its contract by the law `Carried`. Assumes nothing.
+use Prim.Native.Nat.{◌-◌, ◌≤◌}
+use native.Mathlib.Omega.{arith}
+use borrow.Author.Rules.{rules}
+use lib.Ieee.{nan}
+use lib.ListN.{get_or}
+use Rattle.blocks.proofs.Carried.{Carried, carried_none, carried_more, carried_all}
+use Rattle.voice_waves.specs.Block.{triangle_by}
+use Rattle.voice_waves.proofs.pulse.triangle_block.Goals as goal
+
+pub loop-i-init : goal.loop-i-init
+loop-i-init c = (omega arith, carried_none)
+
+pub loop-i-preserved : goal.loop-i-preserved
+loop-i-preserved c =
+    let l = c.loop-i-test.true in
+    (omega (arith, l), carried_more c.loop-i.invariant.1 (omega (arith, l)) c.triangle_by-r.ensures)
+
+pub shape_of-out : goal.shape_of-out
+shape_of-out c = c.loop-i.invariant.1.kept
+
+pub returns : goal.returns
+returns c = carried_all c.loop-i.invariant.1 (omega (arith, c.loop-i.invariant.0, c.loop-i-test.false))

@@ -1,0 +1,8 @@
+-- `wave_file::bytes::u16_at` meets its contract. Assumes nothing.
+use native.Mathlib.Omega.{arith}
+use Rattle.wave_file.proofs.Fields.{field_two}
+use borrow.Author.Rules.{rules}
+use Rattle.wave_file.proofs.bytes.u16_at.Goals as goal
+
+pub returns : goal.returns
+returns c = (omega (arith, field_two c.args.file.now c.args.at c.requires), omega arith)

@@ -1,0 +1,16 @@
+-- `wave_write::header::put_fmt` meets its contract. Assumes nothing.
+use native.Mathlib.Omega.{arith}
+use mathlib.Core.Path.{refl}
+use Rattle.wave_file.specs.Bytes.{little_endian}
+use Rattle.wave_file.proofs.Fields.{placed_both}
+use Prim.Native.Nat.{◌≤◌}
+use lib.ListN.{length}
+use borrow.Author.Rules.{rules}
+use Rattle.wave_write.proofs.header.put_fmt.Goals as goal
+
+pub returns : goal.returns
+unfolding little_endian
+returns c =
+    let l : 12 ≤ length c.args.file.now = omega (arith, c.requires.in_bounds) in
+    let name-size-tag = placed_both l refl (placed_both l refl c.put_u32.ensures c.put_u32-2.ensures) c.put_u16.ensures in
+    placed_both l refl (placed_both l refl (placed_both l refl name-size-tag c.put_u16-2.ensures) c.put_u32-3.ensures) c.put_widths.ensures
