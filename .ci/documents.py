@@ -1,6 +1,7 @@
 """Holds what the documents say to the tree. Each case that fails prints a line that names the document, the place and what
 does not hold; the last line is 'N passed, M failed'."""
 import re
+import shutil
 import subprocess
 import sys
 from pathlib import Path
@@ -9,7 +10,7 @@ from typing import Dict, Iterator, List, NamedTuple, Set, Tuple
 DOCUMENTS = ["README.md", "CHANGELOG.md", *sorted(str(p) for p in Path("docs").glob("*.md"))]
 # The documents whose names are looked up: not those that tell of runs and earlier trees, nor the page of an installation,
 # whose files are elsewhere.
-TOLD = ("CHANGELOG.md", "docs/LANDINGS.md", "docs/COMPARISON.md", "docs/PERFORMANCE.md", "docs/install.md")
+TOLD = ("CHANGELOG.md", "docs/LANDINGS.md", "docs/PORT.md", "docs/COMPARISON.md", "docs/PERFORMANCE.md", "docs/install.md")
 NAMED = [document for document in DOCUMENTS if document not in TOLD]
 
 # Names that the documents cite and that are not this repository's: the original's, Rust's, the C library's, programs'.
@@ -19,7 +20,7 @@ OUTSIDE: Dict[str, Tuple[str, ...]] = {
     "C": ("fmodf", "WAVE_FORMAT_EXTENSIBLE"),
     "Python's packages": ("frombuffer",),
     "programs": ("enscript",),
-    "the toolchain": ("keysN",),
+    "the toolchain": ("using", "rattle-kit-13f"),
 }
 
 # Words that stand for a name of the reader's choice.
@@ -51,7 +52,7 @@ def words(text: str) -> Set[str]:
     return {token.strip("-^") for token in TOKEN.findall(text)}
 
 
-CRATES = re.findall(r"^([a-z0-9_]+):", Path("crates.txt").read_text(), re.M)
+CRATES = re.findall(r"^([a-z0-9_]+)(?: [^:#\n]*)?:", Path("crates.txt").read_text(), re.M)
 SOURCES = {p: p.read_text() for p in files("crates/*/src/**/*.rt", "crates/*/specs/**/*.antt", "crates/*/proofs/**/*.antt")}
 EDITS = {f"{p.parts[1]}/{p.stem}" for p in files("crates/*/must-fail/*.edit")}
 
@@ -95,7 +96,7 @@ class Function(NamedTuple):
     asks: bool  # whether it has a requires
 
 
-HEAD = re.compile(r'^\s*(?:#\[no_mangle\]\s*)?(pub(?:\(crate\))? )?(?:extern "C" )?fn (\w+)')
+HEAD = re.compile(r'^\s*(?:#\[unsafe\(no_mangle\)\]\s*)?(pub(?:\(crate\))? )?(?:extern "C" )?fn (\w+)')
 
 
 def functions(text: str) -> Iterator[Function]:
@@ -112,7 +113,8 @@ def functions(text: str) -> Iterator[Function]:
 def exported(crate: str) -> Dict[str, Function]:
     """The functions and methods that a library hands to the crates above it, by the names that these use."""
     source = {p.stem: text for p, text in SOURCES.items() if p.parts[1] == crate and p.parts[2] == "src"}
-    uses = dict((name, module) for module, name in re.findall(r"^pub use (?:crate::)?(\w+)::(\w+);", source["lib"], re.M))
+    uses = {name: module for module, names in re.findall(r"^pub use (?:crate::)?(\w+)::(\w+|\{[\w,\s]*\});", source["lib"], re.M)
+            for name in re.findall(r"\w+", names)}
     types = {name for name in uses if name[0].isupper()}
     types.update(re.findall(r"^pub (?:struct|enum) (\w+)", source["lib"], re.M))
     found: Dict[str, Function] = {}
@@ -347,6 +349,10 @@ def versions() -> None:
     for document in NAMED:
         for cited in re.findall(r"^ *tono ([0-9.]+) (?:seed|stations)=", Path(document).read_text(), re.M):
             expect(f"{document}: the citation of {cited}", cited == version, f"the version is {version}")
+    rt = shutil.which("rt")
+    if rt:
+        kit = subprocess.run([rt, "version"], capture_output=True, text=True, check=False).stdout.strip()
+        expect("README names the kit that it is proved with", f"`{kit}`" in readme, f"it is {kit}")
     decisions = Path("docs/DECISIONS.md").read_text()
     for cited in re.findall(r"It is ([0-9]+\.[0-9]+\.[0-9]+)", decisions):
         expect(f"DECISIONS: it is {cited}", cited == version, f"the version is {version}")

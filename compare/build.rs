@@ -1,4 +1,4 @@
-// Links the proved libraries, which `rt staticlib` writes, and takes the lines of the original
+// Links the proved libraries, which `tools/build` writes, and takes the lines of the original
 // that no function of its own gives, by their text and unchanged. Where one is not found the build
 // stops. The original's files themselves are the crate `tono`, in original/. An earlier libtono.a that $COMPARE_OLD
 // names is linked too, its calls under other names, for the benchmarks.
@@ -49,7 +49,7 @@ fn link(own: &Path, name: &str) {
     let archive = folder.join(format!("lib{name}.a"));
     if !archive.exists() {
         println!(
-            "cargo:warning=no {}: run `rt staticlib {name}` first",
+            "cargo:warning=no {}: run `tools/build lib{name}.a` first",
             archive.display()
         );
     }

@@ -1,7 +1,7 @@
 /* Nanoseconds a sample of tono_wave_write and tono_wave_read, of memcpy of the samples' bytes, and of plain
  * C loops that store and load byte by byte; the least of seven turns each.
  *
- *     rt staticlib tono
+ *     tools/build libtono.a
  *     cc -std=c11 -O3 -Iinclude compare/wave_bench.c target/staticlib/libtono.a -o wave_bench */
 #define _POSIX_C_SOURCE 199309L
 #include "tono.h"

@@ -1,7 +1,7 @@
 /* Two seconds at 48,000 frames a second: a flute on a pitch curve, and drums, slowing down. Writes the sum of
  * both as a WAVE file; examples/stimulus.py writes the same bytes.
  *
- *     rt staticlib tono
+ *     tools/build libtono.a
  *     cc -std=c11 -O2 -Iinclude examples/stimulus.c target/staticlib/libtono.a -o stimulus
  *     ./stimulus OUT.wav
  *

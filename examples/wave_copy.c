@@ -1,7 +1,7 @@
 /* Reads a WAVE file of mono 32-bit float samples and writes it anew, with the 58 header bytes that
  * tono_wave_write gives. A file that is refused is named with the number and the reason.
  *
- *     rt staticlib tono
+ *     tools/build libtono.a
  *     cc -std=c11 -O2 -Iinclude examples/wave_copy.c target/staticlib/libtono.a -o wave_copy
  *     ./wave_copy IN.wav OUT.wav
  *

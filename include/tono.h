@@ -5,7 +5,7 @@
  * their comments name. The inline calls rest on them, and look first: at the thread's floating-point mode, and at
  * pointers, where NULL is taken if its length is 0. docs/c.md has a table of what each returns.
  *
- * Link libtono.a, which `rt staticlib tono` writes to target/staticlib, or libtono.so, which ./shared-library
+ * Link libtono.a, which `tools/build libtono.a` writes to target/staticlib, or libtono.so, which ./shared-library
  * writes to target/lib; docs/install.md has both for machines without rt. They need nothing but memcpy and memset of the
  * C library. x86-64 Linux. The header compiles as C99 and later, and as C++. */
 #ifndef TONO_H

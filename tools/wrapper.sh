@@ -7,8 +7,8 @@
 #
 # Where the wrappers are installed, the folder has a file `version`, the programs are in bin, and nothing is built.
 
-# How long the first run takes on 2 cores.
-usual="5 to 15 minutes"
+# How long the first run takes.
+usual="30 to 90 minutes"
 
 root=$1
 name=$2
@@ -25,6 +25,9 @@ if [ -f "$root/version" ]; then
 fi
 # What is built and recorded: the program, or another file.
 made=$program
+# What `rt` leaves of the crate, of which that is a copy, and the word by which rt builds it.
+built=$root/crates/$package/out/$package
+verb=run
 # Three lines: the sum of the sources that it was made of, and its own; the kit; and which file it is, by identity. The
 # record's own time is just before the sources were read.
 record=$root/target/$2.sums
@@ -117,11 +120,11 @@ take() {
 
 sum() { sha256sum <"$1" | cut -d ' ' -f 1; }
 
-# Every file that the program is made of, as one sum.
+# Every file that the program is made of, as one sum. What rt leaves in crates/NAME/out is no source.
 sources() {
     (
         cd "$root" && sha256sum crates.txt &&
-            find -L crates -type f -exec sha256sum {} + | LC_ALL=C sort
+            find -L crates -regex 'crates/[^/]*/out' -prune -o -type f -exec sha256sum {} + | LC_ALL=C sort
     ) | sha256sum | cut -d ' ' -f 1
 }
 
@@ -141,7 +144,7 @@ is_recorded() {
 # that it is made of changed since, as its status says, which no program sets.
 is_fresh_by_time() {
     is_recorded && [ "$was" = "$(identity)" ] &&
-        [ -z "$(find -L "$root/crates" "$root/crates.txt" -cnewer "$record" -print -quit 2>&1)" ]
+        [ -z "$(cd "$root" && find -L crates crates.txt -regex 'crates/[^/]*/out' -prune -o -cnewer "$record" -print -quit 2>&1)" ]
 }
 
 # Reads the sources; their sum is then in $made_of, and when this began in $began, by the clock that dates files here.
@@ -177,7 +180,7 @@ is_ready() {
 crates() {
     awk -v top="$package" '
         { sub(/#.*/, ""); i = index($0, ":") }
-        i { name = substr($0, 1, i - 1); gsub(/[ \t]/, "", name); rests[name] = substr($0, i + 1) }
+        i { split(substr($0, 1, i - 1), word, " "); rests[word[1]] = substr($0, i + 1) }
         END {
             todo[1] = top; last = 1
             for (at = 1; at <= last; at++) {
@@ -191,11 +194,12 @@ crates() {
 }
 
 # Prints how many crates are proved, if that changed, and else each ten seconds; on a terminal over the line before.
+# rt says nothing of a crate that was proved before, so at the end all are.
 told=''
 told_at=0
 show_progress() {
-    local count
-    count=$(grep -c '^rt: [A-Za-z0-9_]* proved' "$log" || true)
+    local count=${2:-}
+    if [ -z "$count" ]; then count=$(grep -c '^logic=proved ' "$log" || true); fi
     if [ "$count" = "$told" ] && [ $((SECONDS - told_at)) -lt 10 ]; then return; fi
     told=$count
     told_at=$SECONDS
@@ -206,15 +210,15 @@ show_progress() {
     fi
 }
 
-# run_rt WORDS..: runs rt, and says meanwhile how many crates are proved
+# run_rt: has rt prove the crate and build it, and says meanwhile how many crates are proved
 run_rt() {
-    local total=$1 status=0 crate
-    shift
+    local total status=0 crate
+    total=$(crates)
     SECONDS=0
     { : >"$log"; } 2>/dev/null || die "$log cannot be written; allow it, or copy the repository"
-    # in a group of its own, so that a signal can end all of it
+    # in a group of its own, so that a signal can end all of it; a program is run once, on no input
     set -m
-    (cd "$root" && exec rt "$@") >"$log" 2>&1 </dev/null &
+    (cd "$root/crates/$package" && exec rt "$verb") >"$log" 2>&1 </dev/null &
     group=$!
     set +m
     while kill -0 "$group" 2>/dev/null; do
@@ -224,32 +228,35 @@ run_rt() {
     done
     wait "$group" 2>/dev/null || status=$?
     group=''
-    show_progress "$total"
+    if [ "$status" -eq 0 ]; then show_progress "$total" "$total"; else show_progress "$total"; fi
     if [ -t 2 ]; then echo >&2; fi
     if [ "$status" -ne 0 ]; then
-        crate=$(sed -n 's/^rt: \([A-Za-z0-9_]*\) NOT PROVED.*/\1/p' "$log" | head -n 1)
+        crate=$(sed -n 's/^rt: the library \([A-Za-z0-9_]*\) did not build.*/\1/p' "$log" | head -n 1)
+        if [ -z "$crate" ] && grep -q '^logic=not-proved' "$log"; then crate=$package; fi
         if [ -n "$crate" ]; then die "the crate $crate is not proved; $log says why"; fi
         die "rt ended with status $status; $log says why"
     fi
 }
 
+# Copies what rt built to its place, and records it.
+keep_built() {
+    if [ ! -f "$built" ]; then die "rt wrote no ${built#"$root/"}; remove ${built%/*} and start again"; fi
+    if ! { mkdir -p -- "${made%/*}" && cp -p -- "$built" "$made.$$" && mv -f -- "$made.$$" "$made"; } 2>/dev/null; then
+        rm -f -- "$made.$$" 2>/dev/null || true
+        die "$made cannot be written; allow it, or free some space"
+    fi
+    put_record 2>/dev/null || die "$record cannot be written; allow it, or free some space"
+}
+
 # Proves and builds the program.
 prove() {
-    local total
-    total=$(crates)
     if [ -f "$record" ]; then
         say "the sources or the kit changed: proving again what changed, before playing"
-        # rt goes by the sources alone, so a program that is another one is built again
-        if [ ! -x "$program" ] || [ "$(head -n 1 "$record" | cut -d ' ' -f 2)" != "$(sum "$program")" ]; then
-            rm -f -- "$root/target/stamp/$package"
-        fi
     else
-        say "first run: proves $total crates before it builds the program; this may take $usual, once"
-        if [ ! -x "$program" ]; then rm -f -- "$root/target/stamp/$package"; fi
+        say "first run: proves $(crates) crates before it builds the program; this may take $usual, once"
     fi
-    run_rt "$total" check "$package"
-    if [ ! -x "$program" ]; then die "rt wrote no program; remove $root/target and start again"; fi
-    put_record 2>/dev/null || die "$record cannot be written; allow it, or free some space"
+    run_rt
+    keep_built
 }
 
 # One wrapper proves at a time; the others wait and then find the program.
@@ -265,6 +272,13 @@ lock() {
         flock 8 &
         await || true
     fi
+}
+
+# of_archive NAME: what is built is the archive of a static library, target/staticlib/NAME
+of_archive() {
+    made=$root/target/staticlib/$1
+    built=$root/crates/$package/out/lib$package.a
+    verb=lib
 }
 
 # Ends where there is no rt to build with.
