@@ -1,5 +1,6 @@
 -- Sizes, quotients and products of signed numbers fit 64 bits. Assumes nothing.
-use Rattle.std.proofs.Common.{◌≡◌, ℕ, zero, suc, ◌*◌, ◌/◌, ◌<◌, ◌≤◌, true, false, T, ℤ, pos, negsuc, ◌-ℤ◌, ◌*ℤ◌, neg_ℤ, nat_abs, ap, mul-le-mul, zero-add, div-le_self, arith, to_z-of_z, w64, SFits, to_z, of_z, leb-false}
+use Rattle.std.proofs.Common.{◌≡◌, ℕ, zero, suc, ◌*◌, ◌/◌, ◌<◌, ◌≤◌, true, false, T, ℤ, pos, negsuc, ◌-ℤ◌, ◌*ℤ◌, neg_ℤ, nat_abs, ap, mul-le-mul, zero-add, div-le_self, arith, to_z-of_z, w64}
+use Rattle.std.proofs.Common.{SFits, to_z, of_z, leb-false}
 use lib.Signed.{mag, le_z, non_neg, quot_z}
 use mir.Facts.{to_z_pos}
 

@@ -1,5 +1,6 @@
 -- Two beats in lowest terms of one fraction are one beat (`reduced_unique`). Assumes nothing.
-use Rattle.std.proofs.Common.{◌≡◌, ℕ, zero, suc, ◌+◌, ◌-◌, ◌*◌, ◌<◌, ◌≤◌, Bool, true, false, ltb, ℤ, pos, negsuc, ◌*ℤ◌, nat_abs, sym, refl, ap, ◌∙◌, subst, mul_comm, add-mul, mul-pos, one-mul, mul-zero, zero-mul, mul-one, mul-add, mul_right_comm, le_of_mul-le-mul_right, arith, ltb-false, ltb-true}
+use Rattle.std.proofs.Common.{◌≡◌, ℕ, zero, suc, ◌+◌, ◌-◌, ◌*◌, ◌<◌, ◌≤◌, Bool, true, false, ltb, ℤ, pos, negsuc, ◌*ℤ◌, nat_abs, sym, refl, ap, ◌∙◌, subst, mul_comm, add-mul, mul-pos}
+use Rattle.std.proofs.Common.{one-mul, mul-zero, zero-mul, mul-one, mul-add, mul_right_comm, le_of_mul-le-mul_right, arith, ltb-false, ltb-true}
 use Prim.Native.Nat.{◌∣◌}
 use native.Mathlib.Nat.{dvd_refl, dvd-zero, dvd-add, dvd-mul_right, eq_of_mul-eq-mul_right}
 use lib.Signed.{non_neg}

@@ -8,6 +8,7 @@
 #![tactic(auto)]
 
 ghost use Rattle.std.specs.Prelude.{◌≤◌, length};
+ghost use Rattle.programs.specs.Streams.{Grows};
 
 use board::Board;
 use std::io;
@@ -34,7 +35,9 @@ fn read_bytes(line: &[u8], bytes: &mut [u8]) {
 }
 
 // The answer's words after the line, and a newline.
-fn print_answer<W: Write>(writer: &mut W, answer: u64, interrupt: bool) -> io::Result<()> {
+fn print_answer<W: Write>(writer: &mut W, answer: u64, interrupt: bool) -> io::Result<()>
+    ensures { Grows (W.contents writer.old) (W.contents writer.new) }
+{
     vectors::print_u64(writer, answer)?;
     vectors::print_u64(writer, bit(interrupt))?;
     vectors::print_text(writer, b"\n")
@@ -45,7 +48,9 @@ fn write_bytes<W: Write>(
     board: Board,
     line: &[u8],
     bytes: &mut [u8],
-) -> io::Result<Board> {
+) -> io::Result<Board>
+    ensures { Grows (W.contents writer.old) (W.contents writer.new) }
+{
     read_bytes(line, bytes);
     let write = board.write(vectors::u32_field(line, 1), bytes);
     let after = write.board;
@@ -54,13 +59,17 @@ fn write_bytes<W: Write>(
     Ok(after)
 }
 
-fn replay_write<W: Write>(writer: &mut W, board: Board, line: &[u8]) -> io::Result<Board> {
+fn replay_write<W: Write>(writer: &mut W, board: Board, line: &[u8]) -> io::Result<Board>
+    ensures { Grows (W.contents writer.old) (W.contents writer.new) }
+{
     let count = vectors::length_field(line, 2, MOST_BYTES);
     let mut space = [0u8; 16];
     write_bytes(writer, board, line, &mut space[..count])
 }
 
-fn replay_read<W: Write>(writer: &mut W, board: Board, line: &[u8]) -> io::Result<Board> {
+fn replay_read<W: Write>(writer: &mut W, board: Board, line: &[u8]) -> io::Result<Board>
+    ensures { Grows (W.contents writer.old) (W.contents writer.new) }
+{
     print_answer(
         writer,
         wide(board.read(vectors::u32_field(line, 1))),
@@ -69,7 +78,9 @@ fn replay_read<W: Write>(writer: &mut W, board: Board, line: &[u8]) -> io::Resul
     Ok(board)
 }
 
-fn replay_tick<W: Write>(writer: &mut W, board: Board) -> io::Result<Board> {
+fn replay_tick<W: Write>(writer: &mut W, board: Board) -> io::Result<Board>
+    ensures { Grows (W.contents writer.old) (W.contents writer.new) }
+{
     let tick = board.tick();
     let after = tick.board;
     print_answer(writer, tick.sample as u64, after.interrupt())?;
@@ -77,7 +88,9 @@ fn replay_tick<W: Write>(writer: &mut W, board: Board) -> io::Result<Board> {
 }
 
 // The board after the line's operation.
-fn replay_line<W: Write>(writer: &mut W, board: Board, line: &[u8]) -> io::Result<Board> {
+fn replay_line<W: Write>(writer: &mut W, board: Board, line: &[u8]) -> io::Result<Board>
+    ensures { Grows (W.contents writer.old) (W.contents writer.new) }
+{
     vectors::print_text(writer, line)?;
     if vectors::is_named(line, b"write") {
         return replay_write(writer, board, line);
@@ -92,7 +105,9 @@ fn replay_line<W: Write>(writer: &mut W, board: Board, line: &[u8]) -> io::Resul
     Ok(Board::new())
 }
 
-fn replay<W: Write>(writer: &mut W, input: &[u8]) -> io::Result<()> {
+fn replay<W: Write>(writer: &mut W, input: &[u8]) -> io::Result<()>
+    ensures { Grows (W.contents writer.old) (W.contents writer.new) }
+{
     let mut board = Board::new();
     let mut at = 0;
     while at < input.len() {

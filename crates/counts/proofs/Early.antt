@@ -1,7 +1,9 @@
 -- frame / rate < c in f32, where c is the f32 nearest to p / q seconds: at every rate of the domain it holds exactly where q × frame < p × rate, so of the first
 -- frames, p × rate / q of them rounded up, and of no other. A frame below p / q is at most p / q less 1 / (q × 192,000), which is no more than the f32 before c, so
 -- it rounds to at most that. Any other frame is at least p / q, which rounds to c. Assumes nothing.
-use Rattle.std.proofs.Common.{◌≡◌, ℕ, zero, suc, ◌+◌, ◌-◌, ◌*◌, ◌/◌, ◌^◌, ◌<◌, ◌≤◌, min, Bool, true, false, cond, T, ltb, leb, sym, refl, ap, ◌∙◌, le_trans, le_of_eq, lt_of_lt_of_le, le_of_lt, mul-le-mul_right, zero-lt-suc, mul_assoc, mul_comm, add-mul, mul-le-mul_left, mul-lt-mul_of_pos_right, one-mul, le-div_iff_mul-le, mul-suc, mul_right_comm, arith, ltb→lt, lt→ltb, leb→le, pow_pos, ltb-false, ltb-true}
+use Rattle.std.proofs.Common.{◌≡◌, ℕ, zero, suc, ◌+◌, ◌-◌, ◌*◌, ◌/◌, ◌^◌, ◌<◌, ◌≤◌, min, Bool, true, false, cond, T, ltb, leb, sym, refl, ap, ◌∙◌, le_trans, le_of_eq, lt_of_lt_of_le}
+use Rattle.std.proofs.Common.{le_of_lt, mul-le-mul_right, zero-lt-suc, mul_assoc, mul_comm, add-mul, mul-le-mul_left, mul-lt-mul_of_pos_right, one-mul, le-div_iff_mul-le, mul-suc}
+use Rattle.std.proofs.Common.{mul_right_comm, arith, ltb→lt, lt→ltb, leb→le, pow_pos, ltb-false, ltb-true}
 use native.Mathlib.Nat.{le_of_mul-le-mul_left}
 use lib.Ieee.{Float, binary32, lt, round, odd, size, of_bits}
 use lib.Ieee.Exact.{HasValue}

@@ -1,20 +1,41 @@
 -- What `cue_sheet` makes of its input.
-use Rattle.std.specs.Prelude.{ℕ, ◌≡◌, List, length, take}
+use Rattle.std.specs.Prelude.{ℕ, ◌≤◌, ◌≡◌, List, length, take}
 use Rattle.text_listing.specs.Lines.{printed_r}
-use Rattle.text_listing.specs.Printed.{Printed}
-use Rattle.text_sheet.specs.TextSheet.{SheetResult, refused, accepted, text_sheet}
+use Rattle.text_judge.specs.Refusal.{text_refusal}
+use Rattle.text_sheet.specs.TextSheet.{SheetResult, refused, accepted, text_sheet, SheetPrinted}
+use Rattle.text_sheet.specs.declared.sheet.Sheet.{Sheet}
+use Rattle.text_sheet.specs.declared.sheet.Sheet.TheVariants.{Bytes, Refused}
 
--- the sheet, or the R line of what refuses the score
+-- how many bytes of the page go out
+abbrev pub written : Sheet → ℕ
+written (Bytes n) = n
+written (Refused number) = 0
+
+-- The input stands at the start of `score`, as far as it fits, and its sheet at the start of `page`, of which the first `written said` bytes go out. A page of 18,692 bytes or
+-- more is never too short (the law `never_short` of text_sheet).
+pub record InputPrinted (score page₀ : List ℕ) (said : Sheet) (page : List ℕ) : Type 0 where
+  pub read : ℕ
+  pub within : read ≤ length score
+  -- An input that fills `score`, of which more may follow, is one of "input above 65,536 bytes".
+  pub full : read ≡ length score → text_refusal (take read score) ≡ 16
+  pub printed : SheetPrinted (text_sheet (take read score) 18692) page₀ said page
+
+-- what goes out: the sheet, or the R line of what refuses the score
+abbrev pub shown : Sheet → List ℕ → List ℕ
+shown (Bytes n) page = take n page
+shown (Refused number) page = printed_r number
+
+-- what goes out for a text
 abbrev pub shown_sheet : SheetResult → List ℕ
 shown_sheet (refused number) = printed_r number
 shown_sheet (accepted sheet) = sheet
 
--- what goes out for a text. A page of 18,692 bytes is never too short (the law `never_short` of text_sheet).
 unfoldable pub sheet_lines : List ℕ → List ℕ
 sheet_lines text = shown_sheet (text_sheet text 18692)
 
--- The input's first `read` bytes were read into `score`, which holds them at its start; what goes out for them stands at the start of `page`, and is its first `written` bytes.
-pub record InputPrinted (score : List ℕ) (read : ℕ) (page₀ : List ℕ) (written : ℕ) (page : List ℕ) : Type 0 where
-  -- An input that fills `score`, of which more may follow, is one of "input above 65,536 bytes".
-  pub full : read ≡ length score → sheet_lines (take read score) ≡ printed_r 16
-  pub lines : Printed (sheet_lines (take read score)) 0 page₀ written page
+-- What was read are the first `read` bytes of `score`; their sheet stands at the start of `page`, and what goes out is theirs.
+pub record ReadPrinted (score : List ℕ) (read : ℕ) (page₀ : List ℕ) (said : Sheet) (page : List ℕ) : Type 0 where
+  pub within : read ≤ length score
+  pub full : read ≡ length score → text_refusal (take read score) ≡ 16
+  pub printed : SheetPrinted (text_sheet (take read score) 18692) page₀ said page
+  pub lines : shown said page ≡ sheet_lines (take read score)

@@ -8,6 +8,7 @@
 #![tactic(auto)]
 
 ghost use Rattle.std.specs.Prelude.{◌≤◌, ◌<◌, length, IfOk};
+ghost use Rattle.programs.specs.Streams.{Grows};
 
 use std::io;
 use std::io::{BufWriter, Write};
@@ -15,7 +16,9 @@ use std::io::{BufWriter, Write};
 // The longest page. No sheet has more than 18,692 bytes.
 const MOST_PAGE: usize = 18944;
 
-fn call<W: Write>(writer: &mut W, line: &[u8], text: &[u8], page: &mut [u8]) -> io::Result<()> {
+fn call<W: Write>(writer: &mut W, line: &[u8], text: &[u8], page: &mut [u8]) -> io::Result<()>
+    ensures { Grows (W.contents writer.old) (W.contents writer.new) }
+{
     let answer = tono::tono_cue_sheet(text, page);
     vectors::print_text(writer, line)?;
     vectors::print_i64(writer, answer)?;
@@ -24,7 +27,9 @@ fn call<W: Write>(writer: &mut W, line: &[u8], text: &[u8], page: &mut [u8]) -> 
     vectors::print_text(writer, b"\n")
 }
 
-fn replay_case<W: Write>(writer: &mut W, line: &[u8], text: &[u8]) -> io::Result<()> {
+fn replay_case<W: Write>(writer: &mut W, line: &[u8], text: &[u8]) -> io::Result<()>
+    ensures { Grows (W.contents writer.old) (W.contents writer.new) }
+{
     let n = vectors::length_field(line, 2, MOST_PAGE);
     let mut space = [b'.'; 18944];
     call(writer, line, text, &mut space[..n])
@@ -33,7 +38,8 @@ fn replay_case<W: Write>(writer: &mut W, line: &[u8], text: &[u8]) -> io::Result
 // The place after the case at `at`: its line, and the bytes of its text, or as many as are left.
 fn replay_from<W: Write>(writer: &mut W, input: &[u8], at: usize) -> io::Result<usize>
     requires { at < length input.now }
-    ensures { IfOk result (λ next. (at < next) × (next ≤ length input.now)) }
+    ensures next { IfOk result (λ next. (at < next) × (next ≤ length input.now)) }
+    ensures grows { Grows (W.contents writer.old) (W.contents writer.new) }
 {
     let end = vectors::line_end(input, at);
     if end == input.len() {
@@ -47,7 +53,9 @@ fn replay_from<W: Write>(writer: &mut W, input: &[u8], at: usize) -> io::Result<
     Ok(stop)
 }
 
-fn replay<W: Write>(writer: &mut W, input: &[u8]) -> io::Result<()> {
+fn replay<W: Write>(writer: &mut W, input: &[u8]) -> io::Result<()>
+    ensures { Grows (W.contents writer.old) (W.contents writer.new) }
+{
     let mut at = 0;
     while at < input.len() {
         at = replay_from(writer, input, at)?;

@@ -2,11 +2,15 @@
 // standard input names a kernel and gives its arguments; the answer is appended to it.
 #![tactic(auto)]
 
+ghost use Rattle.programs.specs.Streams.{Grows};
+
 use std::io;
 use std::io::{BufWriter, Write};
 
 // Kernels of one f64.
-fn answer_f64<W: Write>(writer: &mut W, line: &[u8]) -> io::Result<()> {
+fn answer_f64<W: Write>(writer: &mut W, line: &[u8]) -> io::Result<()>
+    ensures { Grows (W.contents writer.old) (W.contents writer.new) }
+{
     let x = vectors::f64_field(line, 1);
     vectors::answer_f64(writer, line, b"sin", trig::sin(x))?;
     vectors::answer_f64(writer, line, b"cos", trig::cos(x))?;
@@ -16,7 +20,9 @@ fn answer_f64<W: Write>(writer: &mut W, line: &[u8]) -> io::Result<()> {
 }
 
 // Their f32 wrappers.
-fn answer_f32<W: Write>(writer: &mut W, line: &[u8]) -> io::Result<()> {
+fn answer_f32<W: Write>(writer: &mut W, line: &[u8]) -> io::Result<()>
+    ensures { Grows (W.contents writer.old) (W.contents writer.new) }
+{
     let x = vectors::f32_field(line, 1);
     vectors::answer_f32(writer, line, b"sinf", trig::sinf(x))?;
     vectors::answer_f32(writer, line, b"cosf", trig::cosf(x))?;
@@ -26,7 +32,9 @@ fn answer_f32<W: Write>(writer: &mut W, line: &[u8]) -> io::Result<()> {
 }
 
 // The power, of two arguments.
-fn answer_power<W: Write>(writer: &mut W, line: &[u8]) -> io::Result<()> {
+fn answer_power<W: Write>(writer: &mut W, line: &[u8]) -> io::Result<()>
+    ensures { Grows (W.contents writer.old) (W.contents writer.new) }
+{
     let x = vectors::f64_field(line, 1);
     let y = vectors::f64_field(line, 2);
     vectors::answer_f64(writer, line, b"powf", det::powf(x, y))?;
@@ -36,7 +44,9 @@ fn answer_power<W: Write>(writer: &mut W, line: &[u8]) -> io::Result<()> {
 }
 
 // A name that no kernel has gets no answer.
-fn replay_line<W: Write>(writer: &mut W, line: &[u8]) -> io::Result<()> {
+fn replay_line<W: Write>(writer: &mut W, line: &[u8]) -> io::Result<()>
+    ensures { Grows (W.contents writer.old) (W.contents writer.new) }
+{
     vectors::print_text(writer, line)?;
     answer_f64(writer, line)?;
     answer_f32(writer, line)?;
@@ -44,7 +54,9 @@ fn replay_line<W: Write>(writer: &mut W, line: &[u8]) -> io::Result<()> {
     vectors::print_text(writer, b"\n")
 }
 
-fn replay<W: Write>(writer: &mut W, text: &[u8]) -> io::Result<()> {
+fn replay<W: Write>(writer: &mut W, text: &[u8]) -> io::Result<()>
+    ensures { Grows (W.contents writer.old) (W.contents writer.new) }
+{
     let mut at = 0;
     while at < text.len() {
         let end = vectors::line_end(text, at);

@@ -15,7 +15,8 @@ module _ (xs : List Float) (i : ℕ) where
   at_turn h = rw (drop-cons xs i nan)
 
   -- `all` says whether those before i are sized, b whether the one at i is
-  pub passed : (all b : Bool) → b ≡ sized_of (get_or xs i nan) → i < length xs → cond all (all_sized (drop i xs)) false ≡ all_sized xs → cond (all && b) (all_sized (drop (i + 1) xs)) false ≡ all_sized xs
+  pub passed : (all b : Bool) → b ≡ sized_of (get_or xs i nan) → i < length xs → cond all (all_sized (drop i xs)) false ≡ all_sized xs →
+      cond (all && b) (all_sized (drop (i + 1) xs)) false ≡ all_sized xs
   passed true b s h e = rw (add-one, s) (sym (at_turn h) ∙ e)
   passed false b s h e = e
 

@@ -1,13 +1,11 @@
--- dsp.rs's f32 kernels, each its f64 kernel of det.rs narrowed once, `one_pole`, `log2` and `hz_to_midi`. The exponential, the power and the hyperbolic tangent are det.rs's own,
--- with its answers at k = -1023 and k = 1024: what `det` gives there is another f64 (Card 10) and the same f32, so that "all frames keep their bits".
+-- dsp.rs's f32 kernels, each its f64 kernel of det.rs narrowed once, `one_pole`, `log2` and `hz_to_midi`.
 use Rattle.std.specs.Prelude.{Float}
 use Rattle.std.specs.Float.{binary32}
 use Rattle.std.specs.Float.Ieee.{of_bits, neg}
 use Rattle.ieee.specs.Binary32.{◌⊕◌, ◌⊗◌, ◌⊘◌}
 use Rattle.ieee.specs.Numbers.{c2}
 use Rattle.trig.specs.Single.{sinf_of, cosf_of}
-use Rattle.det.specs.Single.{lnf_of}
-use Rattle.det_corners.specs.DetRs.{expf_det_rs, powff_det_rs, tanhf_det_rs}
+use Rattle.det.specs.Single.{expf_of, lnf_of, powff_of, tanhf_of}
 
 -- TAU, 6.28318530717958647692528676655900577
 abbrev pub TAU : Float
@@ -20,13 +18,13 @@ abbrev pub cos_of : Float → Float
 cos_of x = cosf_of x
 
 abbrev pub exp_of : Float → Float
-exp_of x = expf_det_rs x
+exp_of x = expf_of x
 
 abbrev pub powf_of : Float → Float → Float
-powf_of x y = powff_det_rs x y
+powf_of x y = powff_of x y
 
 abbrev pub tanh_of : Float → Float
-tanh_of x = tanhf_det_rs x
+tanh_of x = tanhf_of x
 
 -- exp(-1.0 / (secs * sr))
 abbrev pub one_pole : Float → Float → Float

@@ -1,5 +1,5 @@
--- The stages of `adsr_env`, what it gives in three of them, as a loop over the frames of one stage computes it (in the sustain it is s), and the frames of each. The laws of proofs/ByTests say that these are
--- `adsr_env`.
+-- The stages of `adsr_env`, what it gives in three of them, as a loop over the frames of one stage computes it (in the sustain it is s),
+-- and the frames of each. The laws of proofs/ByTests say that these are `adsr_env`.
 use Rattle.std.specs.Prelude.{◌≡◌, ℕ, ◌<◌, ◌≤◌, Bool, true, false, cond, Float}
 use Rattle.std.specs.Float.Ieee.{lt}
 use Rattle.ieee.specs.Numbers.{c0, c1, f32}

@@ -1,5 +1,6 @@
 -- A float in the range of an i32 is the same integer by way of an i64. Assumes nothing.
-use Rattle.std.proofs.Common.{◌≡◌, ℕ, zero, suc, ◌+◌, ◌-◌, ◌*◌, ◌/◌, ◌^◌, ◌<◌, ◌≤◌, min, Bool, true, false, ◌&&◌, ◌||◌, T, eqb, ltb, ℤ, pos, neg_ℤ, sym, ap, ◌∙◌, subst, lt_of_lt_of_le, le-add_right, div-lt_iff_lt-mul, mul-pos, mul-one, le-add_left, arith, eqb→eq, ltb→lt, lt→ltb, pow_pos, to_z-of_z, w32, w64, SFits, to_z, of_z}
+use Rattle.std.proofs.Common.{◌≡◌, ℕ, zero, suc, ◌+◌, ◌-◌, ◌*◌, ◌/◌, ◌^◌, ◌<◌, ◌≤◌, min, Bool, true, false, ◌&&◌, ◌||◌, T, eqb, ltb, ℤ, pos, neg_ℤ, sym, ap, ◌∙◌, subst, lt_of_lt_of_le}
+use Rattle.std.proofs.Common.{le-add_right, div-lt_iff_lt-mul, mul-pos, mul-one, le-add_left, arith, eqb→eq, ltb→lt, lt→ltb, pow_pos, to_z-of_z, w32, w64, SFits, to_z, of_z}
 use mathlib.Core.Bool.{false≢true}
 use lib.Signed.{mag}
 use lib.Ieee.{Float, nan, inf, fin, up, down, lt, le, eq, to_signed}

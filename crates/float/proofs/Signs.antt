@@ -1,5 +1,6 @@
 -- `whole` outside the small range and at either sign, and the absolute value, for both formats. Zero is `fin false 0 (pos 0)`, as the code's tests have it. Assumes nothing.
-use Rattle.std.proofs.Common.{◌≡◌, ℕ, zero, suc, ◌-◌, ◌*◌, ◌^◌, ◌<◌, ◌≤◌, Bool, true, false, cond, not, T, eqb, ltb, ℤ, pos, negsuc, sym, refl, ap, ◌∙◌, subst, true≢false, le_trans, le_of_eq, lt_of_le_of_lt, lt_irrefl, zero-lt-suc, mul-le-mul_left, mul-pos, one-mul, zero-mul, mul-one, arith, eqb→eq, lt→ltb, pow_pos, pow_mono, ltb-false}
+use Rattle.std.proofs.Common.{◌≡◌, ℕ, zero, suc, ◌-◌, ◌*◌, ◌^◌, ◌<◌, ◌≤◌, Bool, true, false, cond, not, T, eqb, ltb, ℤ, pos, negsuc, sym, refl, ap, ◌∙◌, subst, true≢false, le_trans}
+use Rattle.std.proofs.Common.{le_of_eq, lt_of_le_of_lt, lt_irrefl, zero-lt-suc, mul-le-mul_left, mul-pos, one-mul, zero-mul, mul-one, arith, eqb→eq, lt→ltb, pow_pos, pow_mono, ltb-false}
 use mathlib.Core.Bool.{false≢true}
 use lib.Ieee.{Float, nan, inf, fin, Format, prec, up, down, size, odd, neg, lt, eq, level, fits}
 use lib.Ieee.Fits.{and_l, up_pos, neg-fits}

@@ -1,5 +1,7 @@
 -- The steps of `whole` by value, for both formats: x is A / C, above zero and below H = 2 ^ (prec - 1). Assumes nothing.
-use Rattle.std.proofs.Common.{◌≡◌, ℕ, zero, suc, ◌+◌, ◌-◌, ◌*◌, ◌/◌, ◌%◌, ◌^◌, ◌<◌, ◌≤◌, true, false, T, ltb, ℤ, pos, negsuc, sym, refl, ap, ◌∙◌, subst, inl, inr, le_trans, le_of_eq, lt_of_le_of_lt, mul-le-mul_right, zero-lt-suc, mul_assoc, mul_comm, div-lt_iff_lt-mul, add-mul, eq-or-lt_of_le, mul-lt-mul_of_pos_right, mul-pos, one-mul, le-div_iff_mul-le, zero-mul, mul-one, mul_right_comm, div-one, le-add_left, arith, lit<, lit≤, pow_pos, pow-add, ltb-false, ltb-true, lt-ltb}
+use Rattle.std.proofs.Common.{◌≡◌, ℕ, zero, suc, ◌+◌, ◌-◌, ◌*◌, ◌/◌, ◌%◌, ◌^◌, ◌<◌, ◌≤◌, true, false, T, ltb, ℤ, pos, negsuc, sym, refl, ap, ◌∙◌, subst, inl, inr, le_trans, le_of_eq}
+use Rattle.std.proofs.Common.{lt_of_le_of_lt, mul-le-mul_right, zero-lt-suc, mul_assoc, mul_comm, div-lt_iff_lt-mul, add-mul, eq-or-lt_of_le, mul-lt-mul_of_pos_right, mul-pos, one-mul}
+use Rattle.std.proofs.Common.{le-div_iff_mul-le, zero-mul, mul-one, mul_right_comm, div-one, le-add_left, arith, lit<, lit≤, pow_pos, pow-add, ltb-false, ltb-true, lt-ltb}
 use mathlib.Core.Bool.{false≢true}
 use lib.Pow.{pow-lt}
 use lib.Ieee.{Float, nan, inf, fin, Format, binary32, binary64, prec, low, up, down, size, round, sum, add, sub, lt, fits}

@@ -2,11 +2,15 @@
 // a helper and gives its arguments; the answer is appended to it.
 #![tactic(auto)]
 
+ghost use Rattle.programs.specs.Streams.{Grows};
+
 use std::io;
 use std::io::{BufWriter, Write};
 
 // Helpers of one f32 that answer an f32.
-fn answer_f32<W: Write>(writer: &mut W, line: &[u8]) -> io::Result<()> {
+fn answer_f32<W: Write>(writer: &mut W, line: &[u8]) -> io::Result<()>
+    ensures { Grows (W.contents writer.old) (W.contents writer.new) }
+{
     let x = vectors::f32_field(line, 1);
     vectors::answer_f32(writer, line, b"floor", float::floor_f32(x))?;
     vectors::answer_f32(writer, line, b"trunc", float::trunc_f32(x))?;
@@ -19,19 +23,25 @@ fn answer_f32<W: Write>(writer: &mut W, line: &[u8]) -> io::Result<()> {
 }
 
 // Helpers of one f64 that answer an f64.
-fn answer_f64<W: Write>(writer: &mut W, line: &[u8]) -> io::Result<()> {
+fn answer_f64<W: Write>(writer: &mut W, line: &[u8]) -> io::Result<()>
+    ensures { Grows (W.contents writer.old) (W.contents writer.new) }
+{
     let x = vectors::f64_field(line, 1);
     vectors::answer_f64(writer, line, b"floor64", float::floor_f64(x))?;
     vectors::answer_f64(writer, line, b"trunc64", float::trunc_f64(x))?;
     vectors::answer_f64(writer, line, b"round64", float::round_f64(x))
 }
 
-fn print_i32<W: Write>(writer: &mut W, n: i32) -> io::Result<()> {
+fn print_i32<W: Write>(writer: &mut W, n: i32) -> io::Result<()>
+    ensures { Grows (W.contents writer.old) (W.contents writer.new) }
+{
     vectors::print_i64(writer, n as i64)
 }
 
 // Changes of type.
-fn answer_cast<W: Write>(writer: &mut W, line: &[u8]) -> io::Result<()> {
+fn answer_cast<W: Write>(writer: &mut W, line: &[u8]) -> io::Result<()>
+    ensures { Grows (W.contents writer.old) (W.contents writer.new) }
+{
     let x = vectors::f32_field(line, 1);
     let y = vectors::f64_field(line, 1);
     vectors::answer_f64(writer, line, b"widen", rounding::widen(x))?;
@@ -51,14 +61,18 @@ fn answer_cast<W: Write>(writer: &mut W, line: &[u8]) -> io::Result<()> {
     Ok(())
 }
 
-fn answer_rem<W: Write>(writer: &mut W, line: &[u8]) -> io::Result<()> {
+fn answer_rem<W: Write>(writer: &mut W, line: &[u8]) -> io::Result<()>
+    ensures { Grows (W.contents writer.old) (W.contents writer.new) }
+{
     let x = vectors::f32_field(line, 1);
     let y = vectors::f32_field(line, 2);
     vectors::answer_f32(writer, line, b"rem", remainder::rem_f32(x, y))
 }
 
 // Helpers that pick one of their arguments.
-fn answer_order<W: Write>(writer: &mut W, line: &[u8]) -> io::Result<()> {
+fn answer_order<W: Write>(writer: &mut W, line: &[u8]) -> io::Result<()>
+    ensures { Grows (W.contents writer.old) (W.contents writer.new) }
+{
     let a = vectors::f32_field(line, 1);
     let b = vectors::f32_field(line, 2);
     let c = vectors::f32_field(line, 3);
@@ -75,7 +89,9 @@ fn answer_order<W: Write>(writer: &mut W, line: &[u8]) -> io::Result<()> {
 }
 
 // A name that no helper has gets no answer.
-fn replay_line<W: Write>(writer: &mut W, line: &[u8]) -> io::Result<()> {
+fn replay_line<W: Write>(writer: &mut W, line: &[u8]) -> io::Result<()>
+    ensures { Grows (W.contents writer.old) (W.contents writer.new) }
+{
     vectors::print_text(writer, line)?;
     answer_f32(writer, line)?;
     answer_f64(writer, line)?;
@@ -85,7 +101,9 @@ fn replay_line<W: Write>(writer: &mut W, line: &[u8]) -> io::Result<()> {
     vectors::print_text(writer, b"\n")
 }
 
-fn replay<W: Write>(writer: &mut W, text: &[u8]) -> io::Result<()> {
+fn replay<W: Write>(writer: &mut W, text: &[u8]) -> io::Result<()>
+    ensures { Grows (W.contents writer.old) (W.contents writer.new) }
+{
     let mut at = 0;
     while at < text.len() {
         let end = vectors::line_end(text, at);

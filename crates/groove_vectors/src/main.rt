@@ -4,6 +4,7 @@
 #![tactic(auto)]
 
 ghost use Rattle.std.specs.Prelude.{◌≡◌, ◌≤◌, ◌<◌, length};
+ghost use Rattle.programs.specs.Streams.{Grows};
 ghost use Rattle.dsl.specs.Domain.{numeric, Frames};
 ghost use Rattle.tempo.specs.Map.{points};
 
@@ -22,6 +23,7 @@ fn print_place<W: Write>(
 ) -> io::Result<()>
     requires numeric { numeric note.pitch }
     requires frames { Frames n }
+    ensures { Grows (W.contents writer.old) (W.contents writer.new) }
 {
     let groove = groove::groove_note(note, swing, humanize, step_dur);
     let len = groove::note_len(note.len, step_dur, n);
@@ -33,6 +35,7 @@ fn print_place<W: Write>(
 
 fn print_draws<W: Write>(writer: &mut W, note: SeqNote) -> io::Result<()>
     requires { numeric note.pitch }
+    ensures { Grows (W.contents writer.old) (W.contents writer.new) }
 {
     let draws = groove::humanize_draws(note);
     vectors::print_f32(writer, draws.timing)?;
@@ -43,6 +46,7 @@ fn print_draws<W: Write>(writer: &mut W, note: SeqNote) -> io::Result<()>
 // sounded frames, and the draws of humanize, timing first.
 fn answer_groove<W: Write>(writer: &mut W, line: &[u8], note: SeqNote) -> io::Result<()>
     requires { numeric note.pitch }
+    ensures { Grows (W.contents writer.old) (W.contents writer.new) }
 {
     let n = vectors::u32_field(line, 6) as usize;
     if n > 16777216 {
@@ -78,7 +82,9 @@ fn note_of(line: &[u8], from: usize) -> Decoded
     )
 }
 
-fn replay_groove<W: Write>(writer: &mut W, line: &[u8]) -> io::Result<()> {
+fn replay_groove<W: Write>(writer: &mut W, line: &[u8]) -> io::Result<()>
+    ensures { Grows (W.contents writer.old) (W.contents writer.new) }
+{
     let Decoded::Note(note) = note_of(line, 7) else {
         return Ok(());
     };
@@ -116,6 +122,7 @@ fn answer_mapped<W: Write>(
 ) -> io::Result<()>
     requires numeric { numeric note.pitch }
     requires nonzero { 0 < length (points map) }
+    ensures { Grows (W.contents writer.old) (W.contents writer.new) }
 {
     let mapped = groove::groove_note_mapped(
         note,
@@ -134,7 +141,9 @@ fn answer_mapped<W: Write>(
     vectors::print_u64(writer, groove::sounded_frames(n, mapped.start, len) as u64)
 }
 
-fn replay_mapped<W: Write>(writer: &mut W, line: &[u8]) -> io::Result<()> {
+fn replay_mapped<W: Write>(writer: &mut W, line: &[u8]) -> io::Result<()>
+    ensures { Grows (W.contents writer.old) (W.contents writer.new) }
+{
     let Decoded::Note(note) = note_of(line, 6) else {
         return Ok(());
     };
@@ -150,7 +159,9 @@ fn replay_mapped<W: Write>(writer: &mut W, line: &[u8]) -> io::Result<()> {
 }
 
 // draws WAVE RATE PITCH FRAMES STYLE: how many.
-fn replay_draws<W: Write>(writer: &mut W, line: &[u8]) -> io::Result<()> {
+fn replay_draws<W: Write>(writer: &mut W, line: &[u8]) -> io::Result<()>
+    ensures { Grows (W.contents writer.old) (W.contents writer.new) }
+{
     let WaveAt::Wave(wave) = SeqWave::at(vectors::u32_field(line, 1)) else {
         return Ok(());
     };
@@ -169,7 +180,9 @@ fn replay_draws<W: Write>(writer: &mut W, line: &[u8]) -> io::Result<()> {
     vectors::print_u64(writer, draws as u64)
 }
 
-fn replay_line<W: Write>(writer: &mut W, line: &[u8]) -> io::Result<()> {
+fn replay_line<W: Write>(writer: &mut W, line: &[u8]) -> io::Result<()>
+    ensures { Grows (W.contents writer.old) (W.contents writer.new) }
+{
     vectors::print_text(writer, line)?;
     if vectors::is_named(line, b"groove") {
         replay_groove(writer, line)?;
@@ -183,7 +196,9 @@ fn replay_line<W: Write>(writer: &mut W, line: &[u8]) -> io::Result<()> {
     vectors::print_text(writer, b"\n")
 }
 
-fn replay<W: Write>(writer: &mut W, text: &[u8]) -> io::Result<()> {
+fn replay<W: Write>(writer: &mut W, text: &[u8]) -> io::Result<()>
+    ensures { Grows (W.contents writer.old) (W.contents writer.new) }
+{
     let mut at = 0;
     while at < text.len() {
         let end = vectors::line_end(text, at);

@@ -46,7 +46,8 @@ odd_shift d s (suc q) k l j = go
     sum_comm : (k t j : ℕ) → k + t + j ≡ k + j + t
     sum_comm k t j = omega arith
 
-    go : fin s (suc q / 2 ^ count_trailing_zeros d (suc q)) (minus (k + j + count_trailing_zeros d (suc q)) (l + j)) ≡ fin s (suc q / 2 ^ count_trailing_zeros d (suc q)) (minus (k + count_trailing_zeros d (suc q)) l)
+    go : fin s (suc q / 2 ^ count_trailing_zeros d (suc q)) (minus (k + j + count_trailing_zeros d (suc q)) (l + j)) ≡
+        fin s (suc q / 2 ^ count_trailing_zeros d (suc q)) (minus (k + count_trailing_zeros d (suc q)) l)
     go =
         let t = count_trailing_zeros d (suc q) in
         ap (λ (z : ℤ). fin s (suc q / 2 ^ t) z) (ap (λ (z : ℕ). minus z (l + j)) (sym (sum_comm k t j)) ∙ minus_shift (k + t) l j)

@@ -3,7 +3,8 @@
 use mathlib.Core.Path.{◌≡◌, refl, sym, ap, ◌∙◌}
 use mathlib.Core.Logic.{inl, inr}
 use Prim.Native.Nat.{ℕ, ◌+◌, ◌-◌, ◌*◌, ◌/◌, ◌%◌, ◌≤◌, ◌<◌, compare, Ordering}
-use native.Mathlib.Nat.{add-mul, one-mul, mul_assoc, mul_right_comm, div-add-mod', div-eq_of_lt-le, mod-lt, eq-zero-or-pos, div-one, mod-one, div-lt_iff_lt-mul, add-mul-div_right, add-mul-mod_self_right}
+use native.Mathlib.Nat.{add-mul, one-mul, mul_assoc, mul_right_comm, div-add-mod', div-eq_of_lt-le, mod-lt, eq-zero-or-pos, div-one, mod-one, div-lt_iff_lt-mul, add-mul-div_right}
+use native.Mathlib.Nat.{add-mul-mod_self_right}
 use native.Mathlib.Omega.{arith}
 use lib.Ieee.{nearest}
 use lib.Ieee.Nearest.{closest}

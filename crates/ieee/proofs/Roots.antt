@@ -1,7 +1,8 @@
 -- The whole root of a number, and the rounded root of a fraction. Assumes nothing.
 use mathlib.Core.Path.{◌≡◌, sym, ap, ◌∙◌, subst}
 use Prim.Native.Nat.{ℕ, zero, suc, ◌+◌, ◌-◌, ◌*◌, ◌/◌, ◌%◌, ◌^◌, ◌≤◌, ◌<◌, zero-le}
-use native.Mathlib.Nat.{le_trans, le_of_eq, le_refl, le_antisymm, le_of_suc-le-suc, lt_of_lt_of_le, lt_of_not-le, not-le_of_lt, mul-mul-mul_comm, mul-one, one-mul, mul-le-mul, mul-add, add-mul, div-lt_iff_lt-mul, zero-lt-suc, pow-suc, two-pow-succ}
+use native.Mathlib.Nat.{le_trans, le_of_eq, le_refl, le_antisymm, le_of_suc-le-suc, lt_of_lt_of_le, lt_of_not-le, not-le_of_lt, mul-mul-mul_comm, mul-one, one-mul, mul-le-mul, mul-add}
+use native.Mathlib.Nat.{add-mul, div-lt_iff_lt-mul, zero-lt-suc, pow-suc, two-pow-succ}
 use native.Mathlib.Omega.{arith}
 use mathlib.Core.Bool.{Bool, true, false, not, cond}
 use lib.Dec.{T, leb, leb→le, nleb→lt}

@@ -2,7 +2,8 @@
 use mathlib.Core.Path.{◌≡◌, refl, sym, ap, ◌∙◌, subst}
 use mathlib.Core.Logic.{inl, inr}
 use Prim.Native.Nat.{ℕ, zero, suc, ◌+◌, ◌-◌, ◌*◌, ◌/◌, ◌%◌, ◌^◌, ◌≤◌, ◌<◌}
-use native.Mathlib.Nat.{le_trans, le_of_eq, le_refl, lt_of_lt_of_le, lt_of_le_of_lt, lt_of_not-le, lt_of_mul-lt-mul_right, not-le_of_lt, eq-or-lt_of_le, le_of_suc-le-suc, mul_comm, mul-pos, mul_right_comm, mul_assoc, mul-one, zero-mul, mul-le-mul_right, mul-lt-mul_of_pos_right, mul-mod_left, eq_of_mul-eq-mul_right, mul-div_cancel}
+use native.Mathlib.Nat.{le_trans, le_of_eq, le_refl, lt_of_lt_of_le, lt_of_le_of_lt, lt_of_not-le, lt_of_mul-lt-mul_right, not-le_of_lt, eq-or-lt_of_le, le_of_suc-le-suc, mul_comm, mul-pos}
+use native.Mathlib.Nat.{mul_right_comm, mul_assoc, mul-one, zero-mul, mul-le-mul_right, mul-lt-mul_of_pos_right, mul-mod_left, eq_of_mul-eq-mul_right, mul-div_cancel}
 use native.Mathlib.Omega.{arith}
 use mathlib.Core.Bool.{Bool, true, false, ◌&&◌, cond}
 use lib.IntN.{ℤ, pos, negsuc}

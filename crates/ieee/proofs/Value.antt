@@ -2,7 +2,8 @@
 -- One value is written in one way (`value_unique`). What an operation gives, from any fractions that its operands equal (`mul_value`, `div_value`, `add_value`). Assumes nothing.
 use mathlib.Core.Path.{◌≡◌, refl, sym, ap, ◌∙◌, subst}
 use Prim.Native.Nat.{ℕ, zero, suc, ◌+◌, ◌-◌, ◌*◌, ◌%◌, ◌^◌, ◌<◌}
-use native.Mathlib.Nat.{mul_comm, mul_assoc, mul_left_comm, mul_right_comm, mul-mul-mul_comm, mul-one, one-mul, zero-mul, mul-pos, mul-sub, add-mul, lt_irrefl, zero-lt-suc, pow-succ', pow-suc, eq_of_mul-eq-mul_right, add-suc, mul-lt-mul_of_pos_right, lt_of_mul-lt-mul_right}
+use native.Mathlib.Nat.{mul_comm, mul_assoc, mul_left_comm, mul_right_comm, mul-mul-mul_comm, mul-one, one-mul, zero-mul, mul-pos, mul-sub, add-mul, lt_irrefl, zero-lt-suc, pow-succ'}
+use native.Mathlib.Nat.{pow-suc, eq_of_mul-eq-mul_right, add-suc, mul-lt-mul_of_pos_right, lt_of_mul-lt-mul_right}
 use native.Mathlib.Omega.{arith}
 use mathlib.Core.Bool.{Bool, true, false, ◌&&◌, beq, cond}
 use lib.IntN.{ℤ, pos, negsuc}

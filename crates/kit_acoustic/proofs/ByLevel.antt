@@ -33,27 +33,42 @@ pub open_hat_mixed : {slow fast : Float} (t : Float) → slow ≡ fade t c0·32 
 unfolding acoustic_open_hat_level
 open_hat_mixed t e1 e2 = rw (e1, e2)
 
+pub no_level : (drum : Drum) (t : Float) → (drum ≡ Clap → ⊥) → (drum ≡ ClosedHat → ⊥) → (drum ≡ OpenHat → ⊥) → (drum ≡ Unmapped → ⊥) → c0 ≡ acoustic_level drum t
+unfolding acoustic_level
+no_level Kick t a1 a2 a3 a4 = refl
+no_level Snare t a1 a2 a3 a4 = refl
+no_level Rim t a1 a2 a3 a4 = refl
+no_level Clap t a1 a2 a3 a4 = absurd (a1 refl)
+no_level ClosedHat t a1 a2 a3 a4 = absurd (a2 refl)
+no_level OpenHat t a1 a2 a3 a4 = absurd (a3 refl)
+no_level (Tom above) t a1 a2 a3 a4 = refl
+no_level Cowbell t a1 a2 a3 a4 = refl
+no_level Crash t a1 a2 a3 a4 = refl
+no_level Ride t a1 a2 a3 a4 = refl
+no_level Unmapped t a1 a2 a3 a4 = absurd (a4 refl)
+
 -- all but clap, hats, cowbell and the unmapped
-pub no_level : (drum : Drum) (t : Float) → (drum ≡ Clap → ⊥) → (drum ≡ ClosedHat → ⊥) → (drum ≡ OpenHat → ⊥) → (drum ≡ Cowbell → ⊥) → (drum ≡ Unmapped → ⊥) → c0 ≡ acoustic_block_level drum t
+pub no_block_level : (drum : Drum) (t : Float) → (drum ≡ Clap → ⊥) → (drum ≡ ClosedHat → ⊥) → (drum ≡ OpenHat → ⊥) → (drum ≡ Cowbell → ⊥) → (drum ≡ Unmapped → ⊥) → c0 ≡ acoustic_block_level drum t
 unfolding acoustic_block_level
-no_level Kick t a1 a2 a3 a4 a5 = refl
-no_level Snare t a1 a2 a3 a4 a5 = refl
-no_level Rim t a1 a2 a3 a4 a5 = refl
-no_level Clap t a1 a2 a3 a4 a5 = absurd (a1 refl)
-no_level ClosedHat t a1 a2 a3 a4 a5 = absurd (a2 refl)
-no_level OpenHat t a1 a2 a3 a4 a5 = absurd (a3 refl)
-no_level (Tom above) t a1 a2 a3 a4 a5 = refl
-no_level Cowbell t a1 a2 a3 a4 a5 = absurd (a4 refl)
-no_level Crash t a1 a2 a3 a4 a5 = refl
-no_level Ride t a1 a2 a3 a4 a5 = refl
-no_level Unmapped t a1 a2 a3 a4 a5 = absurd (a5 refl)
+no_block_level Kick t a1 a2 a3 a4 a5 = refl
+no_block_level Snare t a1 a2 a3 a4 a5 = refl
+no_block_level Rim t a1 a2 a3 a4 a5 = refl
+no_block_level Clap t a1 a2 a3 a4 a5 = absurd (a1 refl)
+no_block_level ClosedHat t a1 a2 a3 a4 a5 = absurd (a2 refl)
+no_block_level OpenHat t a1 a2 a3 a4 a5 = absurd (a3 refl)
+no_block_level (Tom above) t a1 a2 a3 a4 a5 = refl
+no_block_level Cowbell t a1 a2 a3 a4 a5 = absurd (a4 refl)
+no_block_level Crash t a1 a2 a3 a4 a5 = refl
+no_block_level Ride t a1 a2 a3 a4 a5 = refl
+no_block_level Unmapped t a1 a2 a3 a4 a5 = absurd (a5 refl)
 
 -- the cowbell's pitch is above 20 Hz
 pub cowbell_level : (srf : Float) (i : ℕ) → cowbell_at c540 srf i ≡ cowbell_of c540 (seconds srf i)
 unfolding cowbell_at lt of_bits
 cowbell_level srf i = refl
 
-pub by_block_level : (drum : Drum) (k : Coefficients) (srf : Float) (i : ℕ) (s : AcousticState) → acoustic_block_by drum (acoustic_block_level drum (seconds srf i)) k srf i s ≡ acoustic_at drum k srf i s
+pub by_block_level : (drum : Drum) (k : Coefficients) (srf : Float) (i : ℕ) (s : AcousticState) →
+    acoustic_block_by drum (acoustic_block_level drum (seconds srf i)) k srf i s ≡ acoustic_at drum k srf i s
 unfolding acoustic_block_by acoustic_block_level acoustic_drum acoustic_cowbell acoustic_clap_by acoustic_closed_hat_by acoustic_open_hat_by acoustic_unmapped_by
     acoustic_clap_level clap_mix acoustic_open_hat_level open_hat_mix acoustic_clap acoustic_closed_hat acoustic_open_hat acoustic_unmapped
 by_block_level Kick k srf i s = refl

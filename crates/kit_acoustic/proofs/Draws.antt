@@ -31,7 +31,8 @@ unfolding acoustic_knock
 knock_rng k t past rng = picked (knocks t) _ _
 
 drawn_once : (drum : Drum) (k : Coefficients) (srf t : Float) (s : AcousticState) → (acoustic_drum drum k srf t s).state.rng.0 ≡ cond (acoustic_draws drum t) (advance s.rng.0) s.rng.0
-unfolding acoustic_drum draws_below acoustic_kick acoustic_snare acoustic_rim acoustic_clap acoustic_tom acoustic_cowbell acoustic_unmapped acoustic_closed_hat acoustic_open_hat acoustic_crash acoustic_ride
+unfolding acoustic_drum draws_below acoustic_kick acoustic_snare acoustic_rim acoustic_clap acoustic_tom acoustic_cowbell acoustic_unmapped acoustic_closed_hat acoustic_open_hat
+    acoustic_crash acoustic_ride
 drawn_once Kick k srf t s = knock_rng k t s.lpa s.rng
 drawn_once Snare k srf t s = refl
 drawn_once Rim k srf t s = refl

@@ -15,20 +15,35 @@ use Rattle.kit_classic.specs.Cymbals.{classic_hiss}
 use Rattle.kit_classic.specs.Classic.{classic_drum, classic_at}
 use Rattle.kit_classic.specs.Block.{classic_level, classic_by, classic_block_level, classic_noise_by, classic_hiss_by, classic_block_by}
 
+pub no_level : (drum : Drum) (t : Float) → (drum ≡ Clap → ⊥) → (drum ≡ ClosedHat → ⊥) → (drum ≡ OpenHat → ⊥) → (drum ≡ Crash → ⊥) → (drum ≡ Unmapped → ⊥) → c0 ≡ classic_level drum t
+unfolding classic_level
+no_level Kick t a1 a2 a3 a4 a5 = refl
+no_level Snare t a1 a2 a3 a4 a5 = refl
+no_level Rim t a1 a2 a3 a4 a5 = refl
+no_level Clap t a1 a2 a3 a4 a5 = absurd (a1 refl)
+no_level ClosedHat t a1 a2 a3 a4 a5 = absurd (a2 refl)
+no_level OpenHat t a1 a2 a3 a4 a5 = absurd (a3 refl)
+no_level (Tom above) t a1 a2 a3 a4 a5 = refl
+no_level Cowbell t a1 a2 a3 a4 a5 = refl
+no_level Crash t a1 a2 a3 a4 a5 = absurd (a4 refl)
+no_level Ride t a1 a2 a3 a4 a5 = refl
+no_level Unmapped t a1 a2 a3 a4 a5 = absurd (a5 refl)
+
 -- all but clap, hats, cowbell, crash and the unmapped
-pub no_level : (drum : Drum) (t : Float) → (drum ≡ Clap → ⊥) → (drum ≡ ClosedHat → ⊥) → (drum ≡ OpenHat → ⊥) → (drum ≡ Cowbell → ⊥) → (drum ≡ Crash → ⊥) → (drum ≡ Unmapped → ⊥) → c0 ≡ classic_block_level drum t
+pub no_block_level : (drum : Drum) (t : Float) → (drum ≡ Clap → ⊥) → (drum ≡ ClosedHat → ⊥) → (drum ≡ OpenHat → ⊥) → (drum ≡ Cowbell → ⊥) → (drum ≡ Crash → ⊥) → (drum ≡ Unmapped → ⊥) →
+    c0 ≡ classic_block_level drum t
 unfolding classic_block_level
-no_level Kick t a1 a2 a3 a4 a5 a6 = refl
-no_level Snare t a1 a2 a3 a4 a5 a6 = refl
-no_level Rim t a1 a2 a3 a4 a5 a6 = refl
-no_level Clap t a1 a2 a3 a4 a5 a6 = absurd (a1 refl)
-no_level ClosedHat t a1 a2 a3 a4 a5 a6 = absurd (a2 refl)
-no_level OpenHat t a1 a2 a3 a4 a5 a6 = absurd (a3 refl)
-no_level (Tom above) t a1 a2 a3 a4 a5 a6 = refl
-no_level Cowbell t a1 a2 a3 a4 a5 a6 = absurd (a4 refl)
-no_level Crash t a1 a2 a3 a4 a5 a6 = absurd (a5 refl)
-no_level Ride t a1 a2 a3 a4 a5 a6 = refl
-no_level Unmapped t a1 a2 a3 a4 a5 a6 = absurd (a6 refl)
+no_block_level Kick t a1 a2 a3 a4 a5 a6 = refl
+no_block_level Snare t a1 a2 a3 a4 a5 a6 = refl
+no_block_level Rim t a1 a2 a3 a4 a5 a6 = refl
+no_block_level Clap t a1 a2 a3 a4 a5 a6 = absurd (a1 refl)
+no_block_level ClosedHat t a1 a2 a3 a4 a5 a6 = absurd (a2 refl)
+no_block_level OpenHat t a1 a2 a3 a4 a5 a6 = absurd (a3 refl)
+no_block_level (Tom above) t a1 a2 a3 a4 a5 a6 = refl
+no_block_level Cowbell t a1 a2 a3 a4 a5 a6 = absurd (a4 refl)
+no_block_level Crash t a1 a2 a3 a4 a5 a6 = absurd (a5 refl)
+no_block_level Ride t a1 a2 a3 a4 a5 a6 = refl
+no_block_level Unmapped t a1 a2 a3 a4 a5 a6 = absurd (a6 refl)
 
 -- the cowbell's pitch is above 20 Hz
 pub cowbell_level : (srf : Float) (i : ℕ) → cowbell_at c540 srf i ≡ cowbell_of c540 (seconds srf i)

@@ -22,7 +22,8 @@ in_each ms Ride rate frames a1 a2 = refl
 in_each ms Unmapped rate frames a1 a2 = refl
 
 -- snare, clap, crash, ride and the unmapped
-pub eight08_in_each : (drum : Drum) (rate frames : ℕ) → (drum ≡ Kick → ⊥) → (drum ≡ Rim → ⊥) → (drum ≡ ClosedHat → ⊥) → (drum ≡ OpenHat → ⊥) → ((above : _) → drum ≡ Tom above → ⊥) → (drum ≡ Cowbell → ⊥) → frames ≡ eight08_within drum rate frames
+pub eight08_in_each : (drum : Drum) (rate frames : ℕ) → (drum ≡ Kick → ⊥) → (drum ≡ Rim → ⊥) → (drum ≡ ClosedHat → ⊥) → (drum ≡ OpenHat → ⊥) → ((above : _) → drum ≡ Tom above → ⊥) →
+    (drum ≡ Cowbell → ⊥) → frames ≡ eight08_within drum rate frames
 unfolding eight08_within
 eight08_in_each Kick rate frames a1 a2 a3 a4 a5 a6 = absurd (a1 refl)
 eight08_in_each Snare rate frames a1 a2 a3 a4 a5 a6 = refl

@@ -26,20 +26,34 @@ pub clap_exp : (t : Float) → exp_of (clap_argument t) ≡ claps_of t
 unfolding clap_argument claps_of
 clap_exp t = exp_cond (lt t c0·03) _ _
 
+pub no_level : (drum : Drum) (t : Float) → (drum ≡ Clap → ⊥) → (drum ≡ ClosedHat → ⊥) → (drum ≡ Unmapped → ⊥) → c0 ≡ electronic_level drum t
+unfolding electronic_level
+no_level Kick t a1 a2 a3 = refl
+no_level Snare t a1 a2 a3 = refl
+no_level Rim t a1 a2 a3 = refl
+no_level Clap t a1 a2 a3 = absurd (a1 refl)
+no_level ClosedHat t a1 a2 a3 = absurd (a2 refl)
+no_level OpenHat t a1 a2 a3 = refl
+no_level (Tom above) t a1 a2 a3 = refl
+no_level Cowbell t a1 a2 a3 = refl
+no_level Crash t a1 a2 a3 = refl
+no_level Ride t a1 a2 a3 = refl
+no_level Unmapped t a1 a2 a3 = absurd (a3 refl)
+
 -- all but clap, closed hat, cowbell and the unmapped
-pub no_level : (drum : Drum) (t : Float) → (drum ≡ Clap → ⊥) → (drum ≡ ClosedHat → ⊥) → (drum ≡ Cowbell → ⊥) → (drum ≡ Unmapped → ⊥) → c0 ≡ electronic_block_level drum t
+pub no_block_level : (drum : Drum) (t : Float) → (drum ≡ Clap → ⊥) → (drum ≡ ClosedHat → ⊥) → (drum ≡ Cowbell → ⊥) → (drum ≡ Unmapped → ⊥) → c0 ≡ electronic_block_level drum t
 unfolding electronic_block_level
-no_level Kick t a1 a2 a3 a4 = refl
-no_level Snare t a1 a2 a3 a4 = refl
-no_level Rim t a1 a2 a3 a4 = refl
-no_level Clap t a1 a2 a3 a4 = absurd (a1 refl)
-no_level ClosedHat t a1 a2 a3 a4 = absurd (a2 refl)
-no_level OpenHat t a1 a2 a3 a4 = refl
-no_level (Tom above) t a1 a2 a3 a4 = refl
-no_level Cowbell t a1 a2 a3 a4 = absurd (a3 refl)
-no_level Crash t a1 a2 a3 a4 = refl
-no_level Ride t a1 a2 a3 a4 = refl
-no_level Unmapped t a1 a2 a3 a4 = absurd (a4 refl)
+no_block_level Kick t a1 a2 a3 a4 = refl
+no_block_level Snare t a1 a2 a3 a4 = refl
+no_block_level Rim t a1 a2 a3 a4 = refl
+no_block_level Clap t a1 a2 a3 a4 = absurd (a1 refl)
+no_block_level ClosedHat t a1 a2 a3 a4 = absurd (a2 refl)
+no_block_level OpenHat t a1 a2 a3 a4 = refl
+no_block_level (Tom above) t a1 a2 a3 a4 = refl
+no_block_level Cowbell t a1 a2 a3 a4 = absurd (a3 refl)
+no_block_level Crash t a1 a2 a3 a4 = refl
+no_block_level Ride t a1 a2 a3 a4 = refl
+no_block_level Unmapped t a1 a2 a3 a4 = absurd (a4 refl)
 
 -- the cowbell's pitch is above 20 Hz
 pub cowbell_level : (srf : Float) (i : ℕ) → cowbell_at c555 srf i ≡ cowbell_of c555 (seconds srf i)

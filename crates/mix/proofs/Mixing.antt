@@ -1,5 +1,6 @@
 -- What each frame holds after the frames are cleared, and after a note is mixed into them. Cite it for the frames of a score. Assumes nothing.
-use Rattle.std.proofs.Common.{◌≡◌, ℕ, zero, suc, ◌+◌, ◌-◌, ◌<◌, ◌≤◌, List, [], ◌∷◌, ◌++◌, length, get_or, take, drop, replicate, sym, refl, ap, ◌∙◌, add-one, arith, length-append, length-drop, length-take, length-take-le, get_or-drop, get_or-take, get_or-append-add}
+use Rattle.std.proofs.Common.{◌≡◌, ℕ, zero, suc, ◌+◌, ◌-◌, ◌<◌, ◌≤◌, List, [], ◌∷◌, ◌++◌, length, get_or, take, drop, replicate, sym, refl, ap, ◌∙◌, add-one, arith, length-append}
+use Rattle.std.proofs.Common.{length-drop, length-take, length-take-le, get_or-drop, get_or-take, get_or-append-add}
 use lib.ListN.{length-replicate, get_or-replicate, replicate-append-replicate, get_or-append}
 use lib.Ieee.{Float, nan}
 use Rattle.laws.specs.Run.{samples}

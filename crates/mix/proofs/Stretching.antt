@@ -1,6 +1,7 @@
 -- Use for a loop that at turn i puts `rule i` of element i in its place, from a place on: `Stretched` with its end at i is the loop's invariant. Stretches that follow
 -- each other are one (`stretched_both`), and one from the first element on is `updated` (`stretched_whole`). Assumes nothing.
-use Rattle.std.proofs.Common.{◌≡◌, ℕ, ◌+◌, ◌<◌, ◌≤◌, Bool, true, false, ltb, ◌⊎◌, List, length, get_or, set, sym, refl, ap, ◌∙◌, inl, inr, eq-or-lt_of_le, arith, length-set, get_or-set_other, get_or-set_same, ext_get_or, ltb-false, ltb-true}
+use Rattle.std.proofs.Common.{◌≡◌, ℕ, ◌+◌, ◌<◌, ◌≤◌, Bool, true, false, ltb, ◌⊎◌, List, length, get_or, set, sym, refl, ap, ◌∙◌, inl, inr, eq-or-lt_of_le, arith, length-set}
+use Rattle.std.proofs.Common.{get_or-set_other, get_or-set_same, ext_get_or, ltb-false, ltb-true}
 use Rattle.laws.specs.Update.{updated}
 use Rattle.laws.proofs.Update.{updated_length}
 use Rattle.mix.specs.Stretch.{Stretched}

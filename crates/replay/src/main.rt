@@ -10,6 +10,7 @@
 #![tactic(auto)]
 
 ghost use Rattle.std.specs.Prelude.{◌≤◌, ◌<◌, length, IfOk};
+ghost use Rattle.programs.specs.Streams.{Grows};
 
 use std::io;
 use std::io::{BufWriter, Write};
@@ -36,12 +37,9 @@ fn hash(bytes: &[u8]) -> u64 {
     h
 }
 
-fn print_answer<W: Write>(
-    writer: &mut W,
-    line: &[u8],
-    answer: i64,
-    reply: &[u8],
-) -> io::Result<()> {
+fn print_answer<W: Write>(writer: &mut W, line: &[u8], answer: i64, reply: &[u8]) -> io::Result<()>
+    ensures { Grows (W.contents writer.old) (W.contents writer.new) }
+{
     vectors::print_text(writer, line)?;
     vectors::print_i64(writer, answer)?;
     vectors::print_u64(writer, hash(reply))?;
@@ -53,12 +51,16 @@ fn print_answer<W: Write>(
     Ok(())
 }
 
-fn call<W: Write>(writer: &mut W, line: &[u8], text: &[u8], reply: &mut [u8]) -> io::Result<()> {
+fn call<W: Write>(writer: &mut W, line: &[u8], text: &[u8], reply: &mut [u8]) -> io::Result<()>
+    ensures { Grows (W.contents writer.old) (W.contents writer.new) }
+{
     let answer = tono::tono_play(text, reply);
     print_answer(writer, line, answer, reply)
 }
 
-fn replay_case<W: Write>(writer: &mut W, line: &[u8], text: &[u8]) -> io::Result<()> {
+fn replay_case<W: Write>(writer: &mut W, line: &[u8], text: &[u8]) -> io::Result<()>
+    ensures { Grows (W.contents writer.old) (W.contents writer.new) }
+{
     let n = vectors::length_field(line, 2, MOST_REPLY);
     let mut space = [b'.'; 33024];
     call(writer, line, text, &mut space[..n])
@@ -67,7 +69,8 @@ fn replay_case<W: Write>(writer: &mut W, line: &[u8], text: &[u8]) -> io::Result
 // The place after the case at `at`: its line, and the bytes of its text, or as many as are left.
 fn replay_from<W: Write>(writer: &mut W, input: &[u8], at: usize) -> io::Result<usize>
     requires { at < length input.now }
-    ensures { IfOk result (λ next. (at < next) × (next ≤ length input.now)) }
+    ensures next { IfOk result (λ next. (at < next) × (next ≤ length input.now)) }
+    ensures grows { Grows (W.contents writer.old) (W.contents writer.new) }
 {
     let end = vectors::line_end(input, at);
     if end == input.len() {
@@ -81,7 +84,9 @@ fn replay_from<W: Write>(writer: &mut W, input: &[u8], at: usize) -> io::Result<
     Ok(stop)
 }
 
-fn replay<W: Write>(writer: &mut W, input: &[u8]) -> io::Result<()> {
+fn replay<W: Write>(writer: &mut W, input: &[u8]) -> io::Result<()>
+    ensures { Grows (W.contents writer.old) (W.contents writer.new) }
+{
     let mut at = 0;
     while at < input.len() {
         at = replay_from(writer, input, at)?;

@@ -1,5 +1,6 @@
 -- What `unit` and `bi` compute is exact at every step; the value of a `bi`, in the words of 01, and that it is never 1. Assumes nothing.
-use Rattle.std.proofs.Common.{◌≡◌, ℕ, ◌+◌, ◌-◌, ◌*◌, ◌^◌, ◌<◌, ◌≤◌, Bool, true, false, cond, not, T, ltb, pos, sym, refl, ◌∙◌, subst, lt_of_lt_of_le, le_of_lt, zero-lt-suc, mul-pos, le-add_left, arith, lit≤, ltb→lt, lt→ltb, nltb→le, pow_pos, le-ltb, lt-ltb}
+use Rattle.std.proofs.Common.{◌≡◌, ℕ, ◌+◌, ◌-◌, ◌*◌, ◌^◌, ◌<◌, ◌≤◌, Bool, true, false, cond, not, T, ltb, pos, sym, refl, ◌∙◌, subst, lt_of_lt_of_le, le_of_lt, zero-lt-suc, mul-pos}
+use Rattle.std.proofs.Common.{le-add_left, arith, lit≤, ltb→lt, lt→ltb, nltb→le, pow_pos, le-ltb, lt-ltb}
 use lib.Ieee.{Float, fin, binary32, round, sum, sub, neg, mul, div, of_int, of_bits, lt, below, up, down}
 use lib.Ieee.Fits.{down_pos}
 use lib.Ieee.Exact.{HasValue}

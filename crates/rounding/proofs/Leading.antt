@@ -1,5 +1,6 @@
 -- The digits of a number brought to a known place by a shift that `leading_zeros` gives. Assumes nothing.
-use Rattle.std.proofs.Common.{◌≡◌, ℕ, suc, ◌+◌, ◌-◌, ◌*◌, ◌^◌, ◌<◌, ◌≤◌, sym, ap, ◌∙◌, subst, le_trans, le_of_eq, lt_of_lt_of_le, lt_of_le_of_lt, lt_irrefl, mul-le-mul_right, lt_of_not-le, arith, pow_mono, pow-add, shl_lt}
+use Rattle.std.proofs.Common.{◌≡◌, ℕ, suc, ◌+◌, ◌-◌, ◌*◌, ◌^◌, ◌<◌, ◌≤◌, sym, ap, ◌∙◌, subst, le_trans, le_of_eq, lt_of_lt_of_le, lt_of_le_of_lt, lt_irrefl, mul-le-mul_right, lt_of_not-le}
+use Rattle.std.proofs.Common.{arith, pow_mono, pow-add, shl_lt}
 use lib.Count.{count_leading_zeros, leading_top}
 
 -- q has at most n digits. Shifted left by its leading zeros less c, its leading digit is at place 63 - c

@@ -1,6 +1,7 @@
 -- Rounding q * 2 ^ k of the smallest binary64 values to binary32, from digits that are brought to place 62; and what the three fields of an `f64`'s pattern say of its value.
 -- Assumes nothing.
-use Rattle.std.proofs.Common.{◌≡◌, ℕ, ◌+◌, ◌-◌, ◌*◌, ◌/◌, ◌^◌, ◌<◌, ◌≤◌, Bool, true, false, cond, not, T, sym, refl, ap, ◌∙◌, le_trans, le_of_eq, lt_of_lt_of_le, mul-le-mul_right, zero-lt-suc, mul_assoc, div-lt_iff_lt-mul, mul-pos, le-div_iff_mul-le, mul_right_comm, arith, pow_pos, pow_mono, pow-add, shl_lt}
+use Rattle.std.proofs.Common.{◌≡◌, ℕ, ◌+◌, ◌-◌, ◌*◌, ◌/◌, ◌^◌, ◌<◌, ◌≤◌, Bool, true, false, cond, not, T, sym, refl, ap, ◌∙◌, le_trans, le_of_eq, lt_of_lt_of_le, mul-le-mul_right}
+use Rattle.std.proofs.Common.{zero-lt-suc, mul_assoc, div-lt_iff_lt-mul, mul-pos, le-div_iff_mul-le, mul_right_comm, arith, pow_pos, pow_mono, pow-add, shl_lt}
 use lib.Ieee.{Float, inf, fin, binary32, binary64, up, down, size, units, round, fits, is_nan, of_bits}
 use lib.Ieee.Fits.{round_is, down_pos}
 use lib.Ieee.Exact.{HasValue}

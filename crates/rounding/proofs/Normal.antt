@@ -1,5 +1,6 @@
 -- The pattern of an `f64` in the normal range of binary32, rounded as one number: exponent and digits together. Assumes nothing.
-use Rattle.std.proofs.Common.{◌≡◌, ℕ, ◌+◌, ◌-◌, ◌*◌, ◌/◌, ◌%◌, ◌^◌, ◌<◌, ◌≤◌, Bool, true, false, cond, not, T, leb, sym, refl, ap, ◌∙◌, inl, inr, le_of_eq, le_refl, eq-or-lt_of_le, arith, leb→le, pow_pos, le-leb}
+use Rattle.std.proofs.Common.{◌≡◌, ℕ, ◌+◌, ◌-◌, ◌*◌, ◌/◌, ◌%◌, ◌^◌, ◌<◌, ◌≤◌, Bool, true, false, cond, not, T, leb, sym, refl, ap, ◌∙◌, inl, inr, le_of_eq, le_refl, eq-or-lt_of_le, arith}
+use Rattle.std.proofs.Common.{leb→le, pow_pos, le-leb}
 use Prim.Native.Nat.{compare, Ordering}
 use lib.Dec.{nleb→lt}
 use borrow.Author.Tests.{lt-leb}

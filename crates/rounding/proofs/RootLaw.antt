@@ -1,5 +1,7 @@
 -- The rounded root from the whole root of 47 or 48 digits at an even exponent, and the cases of an `f32`. Assumes nothing.
-use Rattle.std.proofs.Common.{◌≡◌, ℕ, ◌+◌, ◌-◌, ◌*◌, ◌/◌, ◌^◌, ◌<◌, ◌≤◌, false, sym, refl, ap, ◌∙◌, subst, le_trans, le_of_eq, lt_of_lt_of_le, mul-le-mul_right, zero-lt-suc, mul_assoc, mul_comm, mul-le-mul, mul-le-mul_left, mul-lt-mul_of_pos_right, mul-pos, lt_of_not-le, mul-one, mul_right_comm, not-le_of_lt, mul-div_cancel, add-one, arith, pow_pos, pow_mono, pow-add}
+use Rattle.std.proofs.Common.{◌≡◌, ℕ, ◌+◌, ◌-◌, ◌*◌, ◌/◌, ◌^◌, ◌<◌, ◌≤◌, false, sym, refl, ap, ◌∙◌, subst, le_trans, le_of_eq, lt_of_lt_of_le, mul-le-mul_right, zero-lt-suc, mul_assoc}
+use Rattle.std.proofs.Common.{mul_comm, mul-le-mul, mul-le-mul_left, mul-lt-mul_of_pos_right, mul-pos, lt_of_not-le, mul-one, mul_right_comm, not-le_of_lt, mul-div_cancel, add-one, arith}
+use Rattle.std.proofs.Common.{pow_pos, pow_mono, pow-add}
 use Prim.Native.Nat.{compare, Ordering}
 use lib.Ieee.{Float, binary32, size, nearest, units}
 use Rattle.ieee.specs.Root.{root, root_round}

@@ -10,6 +10,7 @@
 #![tactic(auto)]
 
 ghost use Rattle.std.specs.Prelude.{◌≤◌};
+ghost use Rattle.programs.specs.Streams.{Grows};
 
 use dsl::{Adsr, SeqVoice};
 use outcome::Outcome;
@@ -115,7 +116,9 @@ fn seq_of(line: &[u8], voice: SeqVoice, env: Adsr) -> Seq {
     }
 }
 
-fn print_outcome<W: Write>(writer: &mut W, outcome: Outcome) -> io::Result<()> {
+fn print_outcome<W: Write>(writer: &mut W, outcome: Outcome) -> io::Result<()>
+    ensures { Grows (W.contents writer.old) (W.contents writer.new) }
+{
     match outcome {
         Outcome::Played(draws) => {
             vectors::print_u64(writer, 0)?;
@@ -129,7 +132,9 @@ fn print_outcome<W: Write>(writer: &mut W, outcome: Outcome) -> io::Result<()> {
     Ok(())
 }
 
-fn print_counts<W: Write>(writer: &mut W, session: Session) -> io::Result<()> {
+fn print_counts<W: Write>(writer: &mut W, session: Session) -> io::Result<()>
+    ensures { Grows (W.contents writer.old) (W.contents writer.new) }
+{
     let counts = session.draws;
     let mut k = 0;
     while k < STATIONS {
@@ -141,6 +146,7 @@ fn print_counts<W: Write>(writer: &mut W, session: Session) -> io::Result<()> {
 
 fn print_frames<W: Write>(writer: &mut W, out: &[f32; 64], n: usize) -> io::Result<()>
     requires { n ≤ 64 }
+    ensures { Grows (W.contents writer.old) (W.contents writer.new) }
 {
     let mut i = 0;
     while i < n {
@@ -163,7 +169,9 @@ fn call<W: Write>(
     seq: Seq,
     notes: &[u32],
     lane: &[f32],
-) -> io::Result<Session> {
+) -> io::Result<Session>
+    ensures { Grows (W.contents writer.old) (W.contents writer.new) }
+{
     let n = vectors::length_field(line, 8, 64);
     let note_len = vectors::length_field(line, 9, 80);
     let string_len = vectors::length_field(line, 10, 9616);
@@ -191,7 +199,9 @@ fn call<W: Write>(
 }
 
 // The session after the call with the line's notes and lane, which follow knobs, drawbars and envelope.
-fn score<W: Write>(writer: &mut W, line: &[u8], session: Session, seq: Seq) -> io::Result<Session> {
+fn score<W: Write>(writer: &mut W, line: &[u8], session: Session, seq: Seq) -> io::Result<Session>
+    ensures { Grows (W.contents writer.old) (W.contents writer.new) }
+{
     let word_count = vectors::length_field(line, 13, MOST);
     let lane_count = vectors::length_field(line, 14, MOST);
     let words_at = 20
@@ -211,7 +221,9 @@ fn score<W: Write>(writer: &mut W, line: &[u8], session: Session, seq: Seq) -> i
 }
 
 // Where there is no such voice, envelope or list of points, no call is made and nothing changes.
-fn no_call<W: Write>(writer: &mut W, line: &[u8], session: Session) -> io::Result<Session> {
+fn no_call<W: Write>(writer: &mut W, line: &[u8], session: Session) -> io::Result<Session>
+    ensures { Grows (W.contents writer.old) (W.contents writer.new) }
+{
     vectors::print_u64(writer, u32::MAX as u64)?;
     vectors::print_u64(writer, DRAWS_BEFORE)?;
     vectors::print_u64(writer, 0)?;
@@ -220,7 +232,9 @@ fn no_call<W: Write>(writer: &mut W, line: &[u8], session: Session) -> io::Resul
     Ok(session)
 }
 
-fn score_line<W: Write>(writer: &mut W, line: &[u8], session: Session) -> io::Result<Session> {
+fn score_line<W: Write>(writer: &mut W, line: &[u8], session: Session) -> io::Result<Session>
+    ensures { Grows (W.contents writer.old) (W.contents writer.new) }
+{
     let VoiceAt::Voice(voice) = voice_of(line) else {
         return no_call(writer, line, session);
     };
@@ -246,7 +260,9 @@ fn each_second(line: &[u8], from: usize) -> [u64; 8]
     out
 }
 
-fn print_states<W: Write>(writer: &mut W, session: Session) -> io::Result<()> {
+fn print_states<W: Write>(writer: &mut W, session: Session) -> io::Result<()>
+    ensures { Grows (W.contents writer.old) (W.contents writer.new) }
+{
     let mut k = 0;
     while k < STATIONS {
         let station = session.station(k);
@@ -257,7 +273,9 @@ fn print_states<W: Write>(writer: &mut W, session: Session) -> io::Result<()> {
     Ok(())
 }
 
-fn open<W: Write>(writer: &mut W, line: &[u8]) -> io::Result<Session> {
+fn open<W: Write>(writer: &mut W, line: &[u8]) -> io::Result<Session>
+    ensures { Grows (W.contents writer.old) (W.contents writer.new) }
+{
     let session = Session {
         seeds: each_second(line, 1),
         draws: each_second(line, 2),
@@ -266,7 +284,9 @@ fn open<W: Write>(writer: &mut W, line: &[u8]) -> io::Result<Session> {
     Ok(session)
 }
 
-fn replay_line<W: Write>(writer: &mut W, line: &[u8], session: Session) -> io::Result<Session> {
+fn replay_line<W: Write>(writer: &mut W, line: &[u8], session: Session) -> io::Result<Session>
+    ensures { Grows (W.contents writer.old) (W.contents writer.new) }
+{
     vectors::print_text(writer, line)?;
     if vectors::is_named(line, b"open") {
         return open(writer, line);
@@ -274,7 +294,9 @@ fn replay_line<W: Write>(writer: &mut W, line: &[u8], session: Session) -> io::R
     score_line(writer, line, session)
 }
 
-fn replay<W: Write>(writer: &mut W, text: &[u8]) -> io::Result<()> {
+fn replay<W: Write>(writer: &mut W, text: &[u8]) -> io::Result<()>
+    ensures { Grows (W.contents writer.old) (W.contents writer.new) }
+{
     let mut session = Session::open(0, 0);
     let mut at = 0;
     while at < text.len() {

@@ -7,8 +7,10 @@ use lib.ListN.{length}
 use borrow.Author.Tests.{not-false}
 use Rattle.laws.specs.Listed.{listed}
 use Rattle.laws.proofs.Listed.{from_map}
+use lib.Ieee.{Float}
 use Rattle.dsl.specs.Domain.{Frames, numeric}
 use Rattle.dsl.specs.Pitch.{is_curve, passes}
+use Rattle.dsl.specs.declared.pitch.Pitch.TheVariants.{Const}
 use Rattle.dsl.specs.declared.note.SeqNote.{SeqNote}
 use Rattle.dsl.specs.declared.note.Untuned.{Untuned}
 use Rattle.dsl.specs.declared.note.Decoded.{Decoded}
@@ -63,9 +65,12 @@ module _ (s : Score) (m : SeqNote) where
     unfolding first_of
     reach_decides found = chain_fine (value_tests m) ((passes m.pitch s.seq.hop (length s.lane) (place s m).len ⇒ Reach) ∷ []) fine found
 
-    -- a number passes no lane's end
-    pub number_decides : is_curve m.pitch ≡ false → Fine ≡ first_of (note_tests s m)
-    number_decides is = reach_decides (rw (number_passes m.pitch s.seq.hop (length s.lane) (place s m).len is) refl)
+    -- a number passes no lane's end, and what is no curve is one
+    pub number_decides : (x : Float) → m.pitch ≡ Const x → Fine ≡ first_of (note_tests s m)
+    number_decides x is = reach_decides (rw is refl)
+
+    pub uncurved_decides : is_curve m.pitch ≡ false → Fine ≡ first_of (note_tests s m)
+    uncurved_decides is = reach_decides (rw (number_passes m.pitch s.seq.hop (length s.lane) (place s m).len is) refl)
 
 -- words that are a note, or one without its quarter tone
 module _ (s : Score) (e : Decoded) where

@@ -10,3 +10,4 @@ mod Composed
 mod OneSumWholes
 mod Wholes
 mod Quarters
+mod Cut

@@ -33,7 +33,8 @@ use Rattle.tally.specs.Alone.{alone_handed, alone_of, Alone}
 use Rattle.tally.proofs.Values.{all_listed, all_at}
 
 -- a pitch of an accepted score is sized at each frame within its lane
-value_sized : (p : Pitch) (lane : List Float) (k : ℕ) → pitch_sized p ≡ true → all_sized lane ≡ true → ((offset : ℕ) → p ≡ Curve offset → offset + k < length lane) → sized_of (value_at p lane k) ≡ true
+value_sized : (p : Pitch) (lane : List Float) (k : ℕ) → pitch_sized p ≡ true → all_sized lane ≡ true → ((offset : ℕ) → p ≡ Curve offset → offset + k < length lane) →
+    sized_of (value_at p lane k) ≡ true
 unfolding value_at pitch_sized
 value_sized (Const x) lane k h all within = h
 value_sized (Curve offset) lane k h all within = all_at lane _ all (within offset refl)

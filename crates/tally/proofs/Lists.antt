@@ -30,7 +30,7 @@ use Rattle.score_contract.specs.ScoreCall.{Event, Scored, score_in, result_in}
 use Rattle.tally.specs.Alone.{alone_handed, alone_of}
 use Rattle.tally.specs.Tally.{Taken, taken_after, all_taken, tallied}
 use Rattle.tally.specs.Claim.{Run, none, call, seen_in, reported_in}
-use Rattle.tally.specs.Lists.{state_of, PlayedAlone}
+use Rattle.tally.specs.Lists.{state_of, PlayedAlone, MadeAlone}
 use Rattle.tally.specs.Sum.{frame_after}
 use Rattle.tally.proofs.Alone.{alone, call_fine}
 use Rattle.tally.proofs.Taking.{all_taken_lem}
@@ -113,21 +113,26 @@ module _ (s c : ℕ) (es : List Event) (e : Event) (es' : List Event) (b : Stati
         let next : draws_before sc (suc k) ≡ draws_before sc k + draws_in sc m = ap (λ (x : Decoded). draws_before sc k + note_draws sc x) n in
         let before = ap (λ (t : Taken). t.frames) (at k (omega arith)) in
         let mixed = ap (λ (x : Decoded). with_note sc x (state_after s (start + draws_before sc k)) (frames_after sc s start k)) n in
-        let samples =
-        ap (λ (t : Taken). t.frames) (at (suc k) (omega arith)) ∙ mixed ∙ sym (if_false _ heard refl)
-        ∙ (λ j. mix_note sc m (frames_in (sym own j)) (sym before j)) in
-        let leaves = state_add s (start + draws_before sc k) (draws_in sc m) ∙ ap (state_after s) (add_assoc start _ _ ∙ ap (λ (x : ℕ). start + x) (sym next)) in
         record {
           accepted = call_fine sc (accepted_score sc fine).fit m (fine_in sc fine k lt m n) heard;
           draws = ap reported own;
           begins = ap (λ (t : Taken). t.x) (at k (omega arith));
-          samples = samples;
-          leaves = leaves;
-          made = λ n voiced handed from.
-              let call = made_alone sc m (state_of s start sc k m) own n voiced handed from in
-              let gained = ap (λ (l : List Float). mix_note sc m l (taken_after s sc start k).frames) (ap frames_in own ∙ sym call.1.0) in
-              record { answer = call.0; samples = samples ∙ gained; leaves = call.1.1 ∙ leaves };
+          samples =
+              ap (λ (t : Taken). t.frames) (at (suc k) (omega arith)) ∙ mixed ∙ sym (if_false _ heard refl)
+              ∙ (λ j. mix_note sc m (frames_in (sym own j)) (sym before j));
+          leaves = state_add s (start + draws_before sc k) (draws_in sc m) ∙ ap (state_after s) (add_assoc start _ _ ∙ ap (λ (x : ℕ). start + x) (sym next));
         }
+
+    -- THE THEOREM: whoever makes the note call that plays it alone, from the state at its own draw: its frames and draws are the note's in the score
+    pub note_made_in_list : (k : ℕ) → k < note_count (score_in e) → (m : SeqNote) → note_in (score_in e) k ≡ Note m → skips (score_in e) m ≡ false
+        → (n : NoteEvent) → Voiced n → note_handed_in n ≡ alone_handed (score_in e) m → n.rng.0 ≡ state_of s start (score_in e) k m → MadeAlone s start (score_in e) k m n
+    note_made_in_list k lt m is heard n voiced handed from =
+        let sc = score_in e in
+        let own = alone sc fine k m (state_of s start sc k m) lt is heard in
+        let played = note_in_list k lt m is heard in
+        let call = made_alone sc m (state_of s start sc k m) own n voiced handed from in
+        let gained = ap (λ (l : List Float). mix_note sc m l (taken_after s sc start k).frames) (ap frames_in own ∙ sym call.1.0) in
+        record { answer = call.0; samples = played.samples ∙ gained; leaves = call.1.1 ∙ played.leaves }
 
   -- THE THEOREM: a refused call reports 0, and its number is the first refusal that applies
   pub refused_in_list : (why : _) → refusal_at (score_in e) start ≡ Refuse why → seen_in e ≡ refused (number_of why)

@@ -38,7 +38,8 @@ use Rattle.session.specs.Opened.{station_at}
 use Rattle.session.specs.declared.station.Station.{Station}
 use Rattle.score.specs.declared.seq.Timing.{Timing}
 use Rattle.score.specs.declared.place.Place.{Place}
-use Rattle.score.specs.Score.{Score, rate_in, wave_in, kit_in, note_at, note_in, note_count, notes_in, straight_place, mapped_place, place_of, place, skips, pitch, draws_in, note_draws, draws_before, score_draws}
+use Rattle.score.specs.Score.{Score, rate_in, wave_in, kit_in, note_at, note_in, note_count, notes_in, straight_place, mapped_place, place_of, place, skips, pitch, draws_in, note_draws}
+use Rattle.score.specs.Score.{draws_before, score_draws}
 use Rattle.score.specs.Refusals.{number_tests, voice_tests, lent_tests, list_tests, call_tests, note_refusal, refusal, refusal_at}
 use Rattle.score.proofs.Notes.{none_sounded, some_sounded, draws_all}
 use Rattle.score_contract.specs.ScoreCall.{Event, score_in}

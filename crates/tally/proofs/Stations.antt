@@ -18,6 +18,7 @@ use Rattle.outcome.specs.declared.answer.Refusal.{Refusal}
 use Rattle.outcome.specs.declared.answer.Verdict.TheVariants.{Refuse}
 use Rattle.score.specs.Score.{note_in, note_count, skips, score_draws}
 use Rattle.score.specs.Refusals.{refusal_at}
+use Rattle.note.specs.NoteCall.{NoteEvent, note_handed_in, Voiced}
 use Rattle.score_contract.specs.ScoreCall.{Event, score_in}
 use Rattle.score_contract.specs.SessionCall.{SessionEvent, SessionScored, on_station}
 use Rattle.score_contract.proofs.Stations.{nowhere, on_station_lem, others_stay, eight_stays, seeds_stay}
@@ -26,12 +27,13 @@ use Rattle.session.specs.declared.session.Session.{Session}
 use Rattle.session.specs.declared.station.Station.{Station}
 use Rattle.tally.specs.Tally.{tally, tallied, total}
 use Rattle.tally.specs.Claim.{Run, none, call, seen_in, reported_in}
-use Rattle.tally.specs.Lists.{PlayedAlone}
+use Rattle.tally.specs.Alone.{alone_handed}
+use Rattle.tally.specs.Lists.{state_of, PlayedAlone, MadeAlone}
 use Rattle.tally.specs.Setting.{Resets, NoiseKept}
-use Rattle.tally.specs.Stations.{Runs, no_call, next_call, score_on, seen_on, own_calls, draw_at, StationsAgree, LeftOut, nothing, leaves, keeps, AsAlone}
+use Rattle.tally.specs.Stations.{Runs, no_call, next_call, score_on, seen_on, own_calls, draw_at, StationsAgree, GeneratorsAgree, LeftOut, nothing, leaves, keeps, AsAlone}
 use Rattle.tally.specs.Sum.{frame_after}
 use Rattle.tally.proofs.AllCalls.{all_calls}
-use Rattle.tally.proofs.Lists.{in_list, reports_own, frame_in_list, note_in_list, refused_in_list}
+use Rattle.tally.proofs.Lists.{in_list, reports_own, frame_in_list, note_in_list, note_made_in_list, refused_in_list}
 use Rattle.tally.proofs.Setting.{no_knob_moves_noise}
 
 -- ---- the calls that name a station
@@ -132,6 +134,11 @@ module _ (a : Session) (eight : Eight a) (es : List SessionEvent) (e : SessionEv
     pub note_in_station : (j : ℕ) → j < note_count (score_on e) → (m : SeqNote) → note_in (score_on e) j ≡ Note m → skips (score_on e) m ≡ false → PlayedAlone s start (score_on e) j m
     note_in_station = note_in_list s c (own_calls k es) (on_station e) (own_calls k es') (station_in b k) run D frames is
 
+    -- THE THEOREM: and whoever makes the note call that plays it alone
+    pub note_made_in_station : (j : ℕ) → j < note_count (score_on e) → (m : SeqNote) → note_in (score_on e) j ≡ Note m → skips (score_on e) m ≡ false
+        → (n : NoteEvent) → Voiced n → note_handed_in n ≡ alone_handed (score_on e) m → n.rng.0 ≡ state_of s start (score_on e) j m → MadeAlone s start (score_on e) j m n
+    note_made_in_station = note_made_in_list s c (own_calls k es) (on_station e) (own_calls k es') (station_in b k) run D frames is
+
 -- ---- all stations
 seeds_kept : {a b : Session} {es : List SessionEvent} → Runs a es b → b.seeds ≡ a.seeds
 seeds_kept no_call = refl
@@ -145,9 +152,14 @@ none_named (x ∷ xs) e es' (next_call _ scored rest) past = none_named xs e es'
 pub all_stations : (a : Session) → Eight a → (es : List SessionEvent) (b : Session) → Runs a es b → StationsAgree a es b
 all_stations a eight es b runs = record {
   stations = λ k lt. all_calls (seed_in a k) (count_in a k) (own_calls k es) (station_in b k) (own_run k lt eight runs);
-  generators = λ es₁ e es₂ is lt. generator_in_station a eight es₁ e es₂ b (subst (λ (l : List SessionEvent). Runs a l b) is runs) lt;
   seeds = seeds_kept runs;
   nowhere = λ es₁ e es₂ is past. none_named es₁ e es₂ (subst (λ (l : List SessionEvent). Runs a l b) is runs) past;
+}
+
+-- THE THEOREM: and the generator that each of them handed back
+pub all_generators : (a : Session) → Eight a → (es : List SessionEvent) (b : Session) → Runs a es b → GeneratorsAgree a es
+all_generators a eight es b runs = record {
+  each = λ es₁ e es₂ is lt. generator_in_station a eight es₁ e es₂ b (subst (λ (l : List SessionEvent). Runs a l b) is runs) lt;
 }
 
 -- ---- a station alone

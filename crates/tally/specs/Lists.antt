@@ -5,7 +5,7 @@ use Rattle.dsl.specs.declared.note.SeqNote.{SeqNote}
 use Rattle.outcome.specs.Answer.{accepted, reported, frames_in, seen}
 use Rattle.outcome.specs.declared.answer.Verdict.TheVariants.{Fine}
 use Rattle.note_verdict.specs.NoteRefusals.{note_call_refusal}
-use Rattle.note.specs.NoteCall.{NoteEvent, note_handed_in, Voiced}
+use Rattle.note.specs.NoteCall.{NoteEvent}
 use Rattle.score.specs.Score.{Score, draws_in, draws_before}
 use Rattle.score_contract.specs.Frames.{samples_in, mix_note}
 use Rattle.tally.specs.Alone.{alone_handed, alone_of}
@@ -39,5 +39,3 @@ module _ (seed d : ℕ) (s : Score) (k : ℕ) (m : SeqNote) where
     pub samples : (taken_after seed s d (suc k)).frames ≡ mix_note s m (frames_in (alone_of s m state_of)) (taken_after seed s d k).frames
     -- it leaves the state e draws further, where the next note begins
     pub leaves : state_after state_of (draws_in s m) ≡ state_after seed (draw_of s d (suc k))
-    -- whoever makes that note call, from that state: its frames and draws are the note's in the score
-    pub made : (n : NoteEvent) → Voiced n → note_handed_in n ≡ alone_handed s m → n.rng.0 ≡ state_of → MadeAlone n

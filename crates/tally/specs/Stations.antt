@@ -33,14 +33,16 @@ abbrev pub draw_at : Session → List SessionEvent → ℕ → ℕ
 draw_at a es k = count_in a k + reported_in (own_calls k es)
 
 -- The claim: each station agrees with the tally of the calls that name it, so that it ends at draw c + T with the generator s + (c + T) × G mod 2^64, T over the accepted calls
--- that name it, and each of its calls answers what that tally says; the generator that the program handed back from each call stands at the draw after it; no seed moves; and a
--- call that names no station is refused with 33.
+-- that name it, and each of its calls answers what that tally says; no seed moves; and a call that names no station is refused with 33.
 pub record StationsAgree (a : Session) (es : List SessionEvent) (b : Session) : Type 0 where
   pub stations : (k : ℕ) → k < 8 → Agrees (seed_in a k) (count_in a k) (own_calls k es) (station_in b k)
-  pub generators : (es₁ : List SessionEvent) (e : SessionEvent) (es₂ : List SessionEvent) → es ≡ es₁ ++ e ∷ es₂ → e.station < 8
-      → e.answer.rng.0 ≡ state_after (seed_in a e.station) (draw_at a es₁ e.station + reported (seen_on e))
   pub seeds : b.seeds ≡ a.seeds
   pub nowhere : (es₁ : List SessionEvent) (e : SessionEvent) (es₂ : List SessionEvent) → es ≡ es₁ ++ e ∷ es₂ → 7 < e.station → seen_on e ≡ refused 33
+
+-- And the generator that the program handed back from each call that names a station stands at the draw after that call.
+pub record GeneratorsAgree (a : Session) (es : List SessionEvent) : Type 0 where
+  pub each : (es₁ : List SessionEvent) (e : SessionEvent) (es₂ : List SessionEvent) → es ≡ es₁ ++ e ∷ es₂ → e.station < 8
+      → e.answer.rng.0 ≡ state_after (seed_in a e.station) (draw_at a es₁ e.station + reported (seen_on e))
 
 -- The second list is the first with the calls that do not name station k left out; what is kept was handed the same.
 pub data LeftOut (k : ℕ) : List SessionEvent → List SessionEvent → Type 0 where

@@ -220,7 +220,8 @@ all_exported seeds c eight eight' es d runs =
     record {
       results = λ k lt. sym (t.seens k) ∙ (agrees.stations k lt).results ∙ ap (λ (ss : List Score). (tally (get_or seeds k 0) (get_or c k 0) ss).results) (t.scores k);
       ends = λ k lt.
-          ap (λ (x : Station). x.draw) (agrees.stations k lt).station ∙ (agrees.stations k lt).end ∙ ap (λ (ss : List Score). get_or c k 0 + drawn_by (get_or seeds k 0) (get_or c k 0) ss) (t.scores k);
+          ap (λ (x : Station). x.draw) (agrees.stations k lt).station ∙ (agrees.stations k lt).end ∙
+          ap (λ (ss : List Score). get_or c k 0 + drawn_by (get_or seeds k 0) (get_or c k 0) ss) (t.scores k);
       reports = λ k lt. sym (ap total (t.seens k)) ∙ (agrees.stations k lt).reports ∙ ap (λ (ss : List Score). drawn_by (get_or seeds k 0) (get_or c k 0) ss) (t.scores k);
       nowhere = λ es₁ e es₂ is past v m parts. none_named es₁ e es₂ (subst (λ (l : List ScoreExport). RunsExported seeds c l d) is runs) past v m parts;
     }

@@ -1,5 +1,6 @@
 -- The loops that judge the points of a tempo map, each point by itself and each with the one before it. Assumes nothing.
-use Rattle.std.proofs.Common.{◌≡◌, ℕ, zero, suc, ◌-◌, ◌^◌, ◌<◌, ◌≤◌, Bool, true, false, cond, eqb, ltb, List, [], ◌∷◌, length, get_or, drop, ℤ, pos, negsuc, nat_abs, sym, refl, ap, ◌∙◌, arith, length-drop, w64, SFits, of_z, ltb-false, ltb-true, le-ltb, lt-ltb, ne_eqb}
+use Rattle.std.proofs.Common.{◌≡◌, ℕ, zero, suc, ◌-◌, ◌^◌, ◌<◌, ◌≤◌, Bool, true, false, cond, eqb, ltb, List, [], ◌∷◌, length, get_or, drop, ℤ, pos, negsuc, nat_abs, sym, refl, ap, ◌∙◌}
+use Rattle.std.proofs.Common.{arith, length-drop, w64, SFits, of_z, ltb-false, ltb-true, le-ltb, lt-ltb, ne_eqb}
 use lib.Signed.{lt_z}
 use Rattle.tempo.specs.Map.{points}
 use Rattle.tempo.specs.Judge.{fine_at, all_of, chain, begins_at_zero, in_domain}

@@ -1,5 +1,6 @@
 -- The loops over the points of a tempo map: what one point does to a walk. Use with `ahead`, the walk from a place on. Assumes nothing.
-use Rattle.std.proofs.Common.{◌≡◌, ℕ, suc, ◌<◌, ◌≤◌, min, Bool, true, false, ◌||◌, List, [], ◌∷◌, length, get_or, drop, sym, refl, ap, ◌∙◌, arith, drop_of_length-le, length-take, drop-cons, get_or-take}
+use Rattle.std.proofs.Common.{◌≡◌, ℕ, suc, ◌<◌, ◌≤◌, min, Bool, true, false, ◌||◌, List, [], ◌∷◌, length, get_or, drop, sym, refl, ap, ◌∙◌, arith, drop_of_length-le, length-take, drop-cons}
+use Rattle.std.proofs.Common.{get_or-take}
 use lib.Ieee.{Float, le, lt, eq}
 use Rattle.ieee.specs.Numbers64.{d0}
 use Rattle.beat.specs.Beat.{beat64}

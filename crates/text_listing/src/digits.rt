@@ -47,7 +47,7 @@ fn put_hex_4(out: &mut [u8], at: usize, v: u64) -> usize
     put_hex_2(out, next, v)
 }
 
-fn put_hex_8(out: &mut [u8], at: usize, v: u64) -> usize
+pub fn put_hex_8(out: &mut [u8], at: usize, v: u64) -> usize
     requires { Room (hex_text 8 v) at out.old }
     ensures { Printed (hex_text 8 v) at out.old result out.new }
 {
@@ -55,7 +55,7 @@ fn put_hex_8(out: &mut [u8], at: usize, v: u64) -> usize
     put_hex_4(out, next, v)
 }
 
-fn put_hex_16(out: &mut [u8], at: usize, v: u64) -> usize
+pub fn put_hex_16(out: &mut [u8], at: usize, v: u64) -> usize
     requires { Room (hex_text 16 v) at out.old }
     ensures { Printed (hex_text 16 v) at out.old result out.new }
 {

@@ -6,6 +6,6 @@ mod digits; // digits.rt: bytes and numbers
 mod lengths; // lengths.rt: how long they are
 mod lines; // lines.rt: the lines G, F and R, and the listing
 
-pub use digits::{put_byte, put_decimal};
+pub use digits::{put_byte, put_decimal, put_hex_8, put_hex_16};
 pub use lengths::{decimal_length, listing_length, refusal_length};
 pub use lines::{frame_bits, put_lines, put_listing, put_refusal};

@@ -87,7 +87,8 @@ module _ (r : ℕ) (v : SeqVoice) (gain : Float) (f d : ℕ → Float) (s n : �
   piano_length = samples_length _ _ _ _ n
 
   wave_length : (w : SeqWave) → length (wave_frames w r v gain f d s n) ≡ n
-  unfolding wave_frames square_frames triangle_frames sawtooth_frames sine_frames fm_frames epiano_frames organ_frames strings_frames brass_frames flute_frames mallet_frames bell_frames bass_frames cowbell_frames
+  unfolding wave_frames square_frames triangle_frames sawtooth_frames sine_frames fm_frames epiano_frames organ_frames strings_frames brass_frames flute_frames mallet_frames bell_frames
+      bass_frames cowbell_frames
   wave_length Square = samples_length _ _ _ _ n
   wave_length Triangle = samples_length _ _ _ _ n
   wave_length Sawtooth = samples_length _ _ _ _ n

@@ -27,10 +27,10 @@ module _ (a e fi : Float) (bass : BassKnobs) (srf : Float) where
       saw ≡ saw_of s.phase dt →
       let lp = s.lp ⊕ a ⊗ (saw ⊖ s.lp) in
       body ≡ drive_of bass.bass_drive lp →
-      sine ≡ sin_of (TAU ⊗ s.sub_phase) →
+      sine ≡ sin_of (TAU ⊗ s.sub) →
       phase ≡ wrapped (s.phase ⊕ dt) →
-      sub ≡ wrapped (s.sub_phase ⊕ dt ⊗ bass.bass_sub_ratio) →
-      ◌≡◌ {A = BassOut} (record { sample = (bass.bass_body ⊗ body ⊕ bass.bass_sub ⊗ sine) ⊗ e; state = record { phase = phase; sub_phase = sub; lp = lp } })
+      sub ≡ wrapped (s.sub ⊕ dt ⊗ bass.bass_sub_ratio) →
+      ◌≡◌ {A = BassOut} (record { sample = (bass.bass_body ⊗ body ⊕ bass.bass_sub ⊗ sine) ⊗ e; state = record { phase = phase; sub = sub; lp = lp } })
       (bass_by (record { opening = a; fade = e }) fi bass srf s)
   unfolding bass_by
   bass_frame s b c d g h j = rw (j, h, g, d, c, b)

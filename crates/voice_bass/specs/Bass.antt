@@ -30,14 +30,14 @@ bass_at fi bass gain srf i s =
     let a = c1 ⊖ exp_of (neg TAU ⊗ cutoff_at bass gain t ⊘ srf) in
     let lp = s.lp ⊕ a ⊗ (saw_of s.phase dt ⊖ s.lp) in
     let body = drive_of bass.bass_drive lp in
-    let sub = sin_of (TAU ⊗ s.sub_phase) in
+    let sine = sin_of (TAU ⊗ s.sub) in
     record {
-      sample = (bass.bass_body ⊗ body ⊕ bass.bass_sub ⊗ sub) ⊗ exp_of (neg t ⊘ bodyDecay);
-      state = record { phase = wrapped (s.phase ⊕ dt); sub_phase = wrapped (s.sub_phase ⊕ dt ⊗ bass.bass_sub_ratio); lp = lp };
+      sample = (bass.bass_body ⊗ body ⊕ bass.bass_sub ⊗ sine) ⊗ exp_of (neg t ⊘ bodyDecay);
+      state = record { phase = wrapped (s.phase ⊕ dt); sub = wrapped (s.sub ⊕ dt ⊗ bass.bass_sub_ratio); lp = lp };
     }
 
 abbrev pub bass_start : BassState
-bass_start = record { phase = c0; sub_phase = c0; lp = c0 }
+bass_start = record { phase = c0; sub = c0; lp = c0 }
 
 unfoldable pub bass_frames : (ℕ → Float) → BassKnobs → Float → Float → ℕ → List Float
 bass_frames f bass gain srf n = samples (λ i. bass_at (f i) bass gain srf i) (λ r. r.sample) (λ r. r.state) bass_start n

@@ -18,8 +18,8 @@ bass_by x fi bass srf s =
     let dt = increment fi srf in
     let lp = s.lp ⊕ x.opening ⊗ (saw_of s.phase dt ⊖ s.lp) in
     let body = drive_of bass.bass_drive lp in
-    let sub = sin_of (TAU ⊗ s.sub_phase) in
+    let sine = sin_of (TAU ⊗ s.sub) in
     record {
-      sample = (bass.bass_body ⊗ body ⊕ bass.bass_sub ⊗ sub) ⊗ x.fade;
-      state = record { phase = wrapped (s.phase ⊕ dt); sub_phase = wrapped (s.sub_phase ⊕ dt ⊗ bass.bass_sub_ratio); lp = lp };
+      sample = (bass.bass_body ⊗ body ⊕ bass.bass_sub ⊗ sine) ⊗ x.fade;
+      state = record { phase = wrapped (s.phase ⊕ dt); sub = wrapped (s.sub ⊕ dt ⊗ bass.bass_sub_ratio); lp = lp };
     }

@@ -18,7 +18,7 @@ use dsl::{BassKnobs, Reading};
 #[derive(Clone, Copy)]
 struct BassState {
     phase: f32,
-    sub_phase: f32,
+    sub: f32,
     lp: f32,
 }
 
@@ -43,17 +43,13 @@ fn bass_by(a: f32, e: f32, fi: f32, bass: BassKnobs, srf: f32, s: BassState) -> 
     let dt = osc::phase_step(fi, srf);
     let lp = s.lp + a * (osc::saw(s.phase, dt) - s.lp);
     let body = drive(bass.bass_drive, lp);
-    let sub = dsp::sin(dsp::TAU * s.sub_phase);
-    let sample = (bass.bass_body * body + bass.bass_sub * sub) * e;
+    let sine = dsp::sin(dsp::TAU * s.sub);
+    let sample = (bass.bass_body * body + bass.bass_sub * sine) * e;
     let phase = osc::wrap(s.phase + dt);
-    let sub_phase = osc::wrap(s.sub_phase + dt * bass.bass_sub_ratio);
+    let sub = osc::wrap(s.sub + dt * bass.bass_sub_ratio);
     BassOut {
         sample,
-        state: BassState {
-            phase,
-            sub_phase,
-            lp,
-        },
+        state: BassState { phase, sub, lp },
     }
 }
 
@@ -103,7 +99,7 @@ pub fn bass_note(
     let body_decay = float::max_f32(bass.bass_body_decay, 0.001);
     let mut s = BassState {
         phase: 0.0,
-        sub_phase: 0.0,
+        sub: 0.0,
         lp: 0.0,
     };
     let mut a = [0.0f32; 64];

@@ -10,14 +10,13 @@ use Rattle.laws.specs.Run.{iterate}
 use Rattle.trig.specs.Single.{sinf_of}
 use Rattle.det.specs.Single.{tanhf_of}
 use Rattle.blocks.specs.Stored.{stored}
-use Rattle.blocks.proofs.Block.{Tabled, tabled_at, tabled_same, tabled_through, tabled_frame, tabled_from}
+use Rattle.blocks.proofs.Block.{Tabled, tabled_at, tabled_through, tabled_frame, tabled_from}
 use Rattle.blocks.proofs.Rows.{Rows, rows_through, rows_first}
 use Rattle.blocks.proofs.Carried.{Carried, carried_block, carried_part}
 use Rattle.ieee.specs.Binary32.{◌⊗◌}
 use Rattle.ieee.specs.Numbers.{c20}
 use Rattle.ieee.specs.Order.{max_of}
 use Rattle.dsp.specs.Kernels.{TAU, tanh_of}
-use Rattle.dsp.proofs.Kernels.{tanh_is}
 use Rattle.osc.specs.Phase.{seconds}
 use Rattle.dsl.specs.Pitch.{value_at, reading, pitch_at, reaches}
 use Rattle.dsl.specs.declared.pitch.Pitch.TheVariants.{Const}
@@ -25,6 +24,10 @@ use Rattle.dsl.specs.declared.pitch.Reading.{Reading}
 use Rattle.frame_block.specs.Decay.{decay_at}
 use Rattle.voice_cowbell.specs.Cowbell.{c2·5, c1·565, c0·09, cowbell_of, cowbell_at}
 use Rattle.voice_cowbell.specs.Block.{cowbell_turns, cowbell_mix, cowbell_mix_at}
+
+pub two : (fi srf : Float) (i : ℕ) → length (cowbell_turns fi srf i) ≡ 2
+unfolding cowbell_turns
+two fi srf i = refl
 
 -- what a sine's argument becomes
 abbrev saturated : Float → Float
@@ -54,7 +57,7 @@ module _ (f : ℕ → Float) (srf : Float) (from end : ℕ) where
       tabled_from (λ i. cowbell_at (f i) srf i) from end mixed (omega arith) (λ k h l. right (k - from) (omega arith) ∙ ap (λ (i : ℕ). cowbell_at (f i) srf i) (back k h))
     where
       through : Tabled (λ j. saturated (get_or x j nan)) nan 0 ((end - from) * 2) t
-      through = tabled_through tanh_of (tabled_through (λ v. c2·5 ⊗ v) sines drive) (tabled_same (λ k. tanh_is _) tangents)
+      through = tabled_through tanh_of (tabled_through (λ v. c2·5 ⊗ v) sines drive) tangents
 
       right : (k : ℕ) → k < end - from → cowbell_mix_at t e k ≡ cowbell_at (f (from + k)) srf (from + k)
       right k h =
@@ -100,7 +103,7 @@ module _ (f : ℕ → Float) (srf : Float) (from : ℕ) where
       (still 64)
     where
       through : Tabled (λ j. saturated (get_or x j nan)) nan 0 128 z
-      through = tabled_through tanh_of (tabled_through (λ v. c2·5 ⊗ v) sines drive) (tabled_same (λ k. tanh_is _) tangents)
+      through = tabled_through tanh_of (tabled_through (λ v. c2·5 ⊗ v) sines drive) tangents
 
       right : (k : ℕ) → k < 64 → cowbell_mix (get_or z (k * 2) nan) (get_or z (k * 2 + 1) nan) (get_or e k nan) ≡ cowbell_at (f (from + k)) srf (from + k)
       right k h =

@@ -1,5 +1,5 @@
--- The state after a frame of the flute from what its calls gave, in the order of the code; a frame and a block from the tables are the definition's; and the generator after n frames,
--- which draw once each. Assumes nothing.
+-- The state after a frame of the flute from what its calls gave, in the order of the code; a block from the tables is the definition's; and the generator after n frames, which draw
+-- once each. Assumes nothing.
 use Prim.Native.Nat.{ℕ, ◌+◌, ◌-◌, ◌^◌, ◌≤◌, ◌<◌}
 use mathlib.Core.Path.{◌≡◌, refl, ap, ◌∙◌}
 use mathlib.Core.List.{List}
@@ -12,7 +12,7 @@ use Rattle.laws.proofs.Iterate.{part_iterated}
 use Rattle.trig.specs.Single.{sinf_of}
 use Rattle.blocks.specs.Stored.{stored}
 use Rattle.blocks.proofs.Block.{Tabled, tabled_none, tabled_next, tabled_all, tabled_at}
-use Rattle.blocks.proofs.Carried.{Carried, carried_part}
+use Rattle.blocks.proofs.Carried.{Carried, carried_block, carried_part}
 use Rattle.ieee.specs.Numbers.{c0, c0·006, c0·15, c1}
 use Rattle.ieee.specs.Binary32.{◌⊕◌, ◌⊖◌, ◌⊗◌, ◌⊘◌}
 use Rattle.ieee.specs.Order.{max_of}
@@ -24,6 +24,7 @@ use Rattle.osc.specs.Phase.{wrapped}
 use Rattle.frame_block.specs.Decay.{decay_at}
 use Rattle.voice_flute.specs.Flute.{c5·5, rng_at, flute_at}
 use Rattle.voice_flute.specs.Block.{flute_next, flute_mix, flute_mix_at, flute_reached}
+use Rattle.voice_flute.proofs.Frame.{after, flute_sample}
 use Rattle.voice_flute.specs.declared.FluteState.{FluteState}
 
 pub flute_step :
@@ -37,19 +38,6 @@ pub flute_step :
     ◌≡◌ {A = FluteState} (record { phase = phase; vib = vib; lp = s.lp ⊕ lpA ⊗ (breath ⊖ s.lp); rng = rng_at next }) (flute_next e fi srf lpA s)
 unfolding flute_next
 flute_step e fi srf lpA s a b c d g h = rw (h, g, d, c, b, a)
-
--- ---- a frame
-module _ (fi gain srf lpA : Float) (i : ℕ) (z : FluteState) where
-  abbrev after : FluteState
-  after = flute_next (decay_at srf c0·15 i) fi srf lpA z
-
-  module _ (s b : List Float) (k : ℕ) where
-    flute_by : get_or s k nan ≡ sin_of (TAU ⊗ after.phase) → get_or b k nan ≡ after.lp → flute_mix_at s b gain k ≡ (flute_at fi gain srf lpA i z).sample
-    unfolding flute_next flute_mix flute_mix_at flute_at
-    flute_by a c = rw (a, c)
-
-    flute_sample : {z' : FluteState} → z' ≡ after → get_or s k nan ≡ sin_of (TAU ⊗ z'.phase) → get_or b k nan ≡ z'.lp → flute_mix_at s b gain k ≡ (flute_at fi gain srf lpA i z).sample
-    flute_sample e a c = flute_by (a ∙ ap (λ (z : FluteState). sin_of (TAU ⊗ z.phase)) e) (c ∙ ap (λ (z : FluteState). z.lp) e)
 
 -- ---- a block
 -- The loop that advances a state and keeps two values of it after each frame: k of n frames are done. `next j` is what frame j makes of the state.
@@ -99,8 +87,8 @@ module _ {S Y : Type 0} {next : ℕ → S → S} {start : S} {f g : S → Y} {d 
   pub pair_state : {k : ℕ} {x y : List Y} {s : S} → PairTabled next start f g d m l n k x y s → n ≤ k → s ≡ iterate next start n
   pair_state {k} h le = let e : k ≡ n = omega (arith, h.within) in h.is ∙ ap (iterate next start) e
 
--- the frames from `from` on and before `end`
-module _ (f : ℕ → Float) (gain srf lpA : Float) (from end : ℕ) (start : FluteState) where
+-- a block of 64 frames
+module _ (f : ℕ → Float) (gain srf lpA : Float) (from : ℕ) (start : FluteState) where
   abbrev at : ℕ → FluteState
   at = flute_reached f srf lpA from start
 
@@ -110,21 +98,42 @@ module _ (f : ℕ → Float) (gain srf lpA : Float) (from end : ℕ) (start : Fl
 
   pub flute_carried :
       {x s b out₀ out : List Float} {r : FluteState} →
-      Tabled (λ k. TAU ⊗ (at (k + 1)).phase) nan 0 (end - from) x →
-      Tabled (λ k. (at (k + 1)).lp) nan 0 (end - from) b →
+      Tabled (λ k. TAU ⊗ (at (k + 1)).phase) nan 0 64 x →
+      Tabled (λ k. (at (k + 1)).lp) nan 0 64 b →
+      Tabled (λ j. sinf_of (get_or x j nan)) nan 0 64 s →
+      from + 64 ≤ length out₀ →
+      out ≡ stored (λ k. flute_mix (get_or s k nan) gain (get_or b k nan)) from 64 out₀ →
+      r ≡ at 64 →
+      Carried (λ i. flute_at (f i) gain srf lpA i) (λ o. o.sample) (λ o. o.state) from (from + 64) out₀ start out r
+  unfolding flute_at flute_next
+  flute_carried {x} {s} {b} turns breath sines room e g =
+      carried_block (λ i. flute_at (f i) gain srf lpA i) (λ o. o.sample) (λ o. o.state) from start (λ k. flute_mix (get_or s k nan) gain (get_or b k nan)) 64 room right e g
+    where
+      right : (k : ℕ) → k < 64 → flute_mix (get_or s k nan) gain (get_or b k nan) ≡ (flute_at (f (from + k)) gain srf lpA (from + k) (at k)).sample
+      right k h =
+          flute_sample (f (from + k)) gain srf lpA (from + k) (at k) (at_next k) (tabled_at sines k h ∙ ap sinf_of (tabled_at turns k h)) (tabled_at breath k h)
+
+-- the frames from `from` on and before `end`
+module _ (f : ℕ → Float) (gain srf lpA : Float) (from end : ℕ) (start : FluteState) where
+  pub flute_carried_part :
+      {x s b out₀ out : List Float} {r : FluteState} →
+      Tabled (λ k. TAU ⊗ (flute_reached f srf lpA from start (k + 1)).phase) nan 0 (end - from) x →
+      Tabled (λ k. (flute_reached f srf lpA from start (k + 1)).lp) nan 0 (end - from) b →
       Tabled (λ j. sinf_of (get_or x j nan)) nan 0 (end - from) s →
       from ≤ end →
       end ≤ length out₀ →
       out ≡ stored (flute_mix_at s b gain) from (end - from) out₀ →
-      r ≡ at (end - from) →
+      r ≡ flute_reached f srf lpA from start (end - from) →
       Carried (λ i. flute_at (f i) gain srf lpA i) (λ o. o.sample) (λ o. o.state) from end out₀ start out r
   unfolding flute_at flute_next
-  flute_carried {s = s} {b = b} turns breath sines le room e g =
+  flute_carried_part {s = s} {b = b} turns breath sines le room e g =
       carried_part (λ i. flute_at (f i) gain srf lpA i) (λ o. o.sample) (λ o. o.state) from start (flute_mix_at s b gain) end le room right e g
     where
-      right : (k : ℕ) → k < end - from → flute_mix_at s b gain k ≡ (flute_at (f (from + k)) gain srf lpA (from + k) (at k)).sample
+      right : (k : ℕ) → k < end - from → flute_mix_at s b gain k ≡ (flute_at (f (from + k)) gain srf lpA (from + k) (flute_reached f srf lpA from start k)).sample
       right k h =
-          flute_sample (f (from + k)) gain srf lpA (from + k) (at k) s b k (at_next k) (tabled_at sines k h ∙ ap sinf_of (tabled_at turns k h)) (tabled_at breath k h)
+          unfold flute_mix_at in
+          flute_sample (f (from + k)) gain srf lpA (from + k) (flute_reached f srf lpA from start k) (at_next f gain srf lpA from start k)
+          (tabled_at sines k h ∙ ap sinf_of (tabled_at turns k h)) (tabled_at breath k h)
 
 -- ---- the generator
 module _ (f : ℕ → Float) (gain srf lpA : Float) (s : FluteState) (n : ℕ) where

@@ -13,7 +13,7 @@ use Rattle.voice_flute.specs.declared.FluteState.{FluteState}
 use Rattle.voice_flute.specs.declared.FluteOut.{FluteOut}
 
 module _ (fi gain srf lpA : Float) (i : ℕ) (s : FluteState) where
-  abbrev after : FluteState
+  abbrev pub after : FluteState
   after = flute_next (decay_at srf c0·15 i) fi srf lpA s
 
   whole_sample : flute_mix (sin_of (TAU ⊗ after.phase)) gain after.lp ≡ (flute_at fi gain srf lpA i s).sample

@@ -55,7 +55,7 @@ fn organ_mix(
 }
 
 // The phase after a frame of the pitch fi.
-fn organ_next(fi: f32, srf: f32, phase: f32) -> f32
+pub fn organ_next(fi: f32, srf: f32, phase: f32) -> f32
     ensures { result ≡ organ_next fi srf phase }
 {
     osc::wrap(phase + float::max_f32(fi, 0.0) / 2.0 / srf)

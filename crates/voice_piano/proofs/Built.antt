@@ -1,5 +1,6 @@
 -- The loop that makes a note's partials. `Built` is its invariant. Assumes nothing.
-use Rattle.std.proofs.Common.{◌≡◌, ℕ, suc, ◌+◌, ◌-◌, ◌<◌, ◌≤◌, true, false, cond, List, [], ◌∷◌, ◌++◌, length, take, set, sym, refl, ◌∙◌, append_assoc, append-nil, add-one, arith, length-set, take-suc-set}
+use Rattle.std.proofs.Common.{◌≡◌, ℕ, suc, ◌+◌, ◌-◌, ◌<◌, ◌≤◌, true, false, cond, List, [], ◌∷◌, ◌++◌, length, take, set, sym, refl, ◌∙◌, append_assoc, append-nil, add-one, arith}
+use Rattle.std.proofs.Common.{length-set, take-suc-set}
 use lib.Ieee.{Float, lt}
 use Rattle.ieee.specs.Numbers.{c0·45}
 use Rattle.ieee.specs.Binary32.{◌⊗◌}
@@ -19,7 +20,7 @@ module _ {b : Blow} {srf : Float} where
 
   module _ {j : ℕ} {items : List Partial} (h : Built b srf j items) where
     abbrev ratio : Float
-    ratio = ratio_of b.b_inharm (j + 1)
+    ratio = ratio_of b.stretch (j + 1)
 
     ahead_one : j < 18 → take j items ++ cond (lt (c0·45 ⊗ srf) (ratio ⊗ b.f0)) [] (partial_of b srf (j + 1) ratio ∷ partials_from b srf (18 - suc j) (suc (j + 1))) ≡ partials_of b srf
     unfolding partials_from

@@ -21,21 +21,21 @@ blow_of k gain pitch =
     let f0 = max_of pitch c20 in
     record {
       f0 = f0;
-      b_inharm = clamp_of (c7e-5 ⊗ inharm ⊗ (f0 ⊘ c55)) (c5e-5 ⊗ inharm) (c1·2e-3 ⊗ inharm);
-      base_decay = clamp_of (c10 ⊗ k.piano_decay ⊘ (c1 ⊕ f0 ⊘ c110)) c0·45 c9;
+      stretch = clamp_of (c7e-5 ⊗ inharm ⊗ (f0 ⊘ c55)) (c5e-5 ⊗ inharm) (c1·2e-3 ⊗ inharm);
+      decay = clamp_of (c10 ⊗ k.piano_decay ⊘ (c1 ⊕ f0 ⊘ c110)) c0·45 c9;
       strike = clamp_of k.piano_strike c0·01 c0·5;
       bright = c0·45 ⊕ c0·55 ⊗ gain;
       hammer = max_of k.piano_hammer c0·001;
     }
 
 unfoldable pub ratio_of : Float → ℕ → Float
-ratio_of bInharm k = let kf = f32 k in kf ⊗ sqrt_of (c1 ⊕ bInharm ⊗ kf ⊗ kf)
+ratio_of stretch k = let kf = f32 k in kf ⊗ sqrt_of (c1 ⊕ stretch ⊗ kf ⊗ kf)
 
 unfoldable pub partial_of : Blow → Float → ℕ → Float → Partial
 partial_of b srf k ratio =
     let kf = f32 k in
     let notch = abs_of (sin_of (PI ⊗ kf ⊗ b.strike)) in
-    let decay = max_of (b.base_decay ⊘ (c1 ⊕ c0·55 ⊗ (kf ⊖ c1))) c0·05 in
+    let decay = max_of (b.decay ⊘ (c1 ⊕ c0·55 ⊗ (kf ⊖ c1))) c0·05 in
     record {
       step = ratio;
       amp = notch ⊘ kf ⊗ powf_of b.bright ((kf ⊖ c1) ⊗ c0·18 ⊘ b.hammer);
@@ -49,7 +49,7 @@ partial_of b srf k ratio =
 unfoldable pub partials_from : Blow → Float → ℕ → ℕ → List Partial
 partials_from b srf zero k = []
 partials_from b srf (suc m) k =
-    let ratio = ratio_of b.b_inharm k in
+    let ratio = ratio_of b.stretch k in
     cond (lt (c0·45 ⊗ srf) (ratio ⊗ b.f0)) [] (partial_of b srf k ratio ∷ partials_from b srf m (suc k))
 
 abbrev pub partials_of : Blow → Float → List Partial

@@ -11,8 +11,8 @@ const PI: f32 = 3.14159265358979323846264338327950288; // 40490fdb
 #[derive(Clone, Copy)]
 pub struct Blow {
     pub f0: f32,
-    pub b_inharm: f32,
-    pub base_decay: f32,
+    pub stretch: f32,
+    pub decay: f32,
     pub strike: f32,
     pub bright: f32,
     pub hammer: f32,
@@ -43,17 +43,17 @@ pub fn hammer_blow(knobs: PianoKnobs, gain: f32, pitch: f32) -> Blow
 {
     let inharm = float::max_f32(knobs.piano_inharm, 0.0);
     let f0 = float::max_f32(pitch, 20.0);
-    let b_inharm = float::clamp_f32(
+    let stretch = float::clamp_f32(
         7.0e-5 * inharm * (f0 / 55.0),
         5.0e-5 * inharm,
         1.2e-3 * inharm,
     );
-    let base_decay = float::clamp_f32(10.0 * knobs.piano_decay / (1.0 + f0 / 110.0), 0.45, 9.0);
+    let decay = float::clamp_f32(10.0 * knobs.piano_decay / (1.0 + f0 / 110.0), 0.45, 9.0);
     let strike = float::clamp_f32(knobs.piano_strike, 0.01, 0.5);
     Blow {
         f0,
-        b_inharm,
-        base_decay,
+        stretch,
+        decay,
         strike,
         bright: 0.45 + 0.55 * gain,
         hammer: float::max_f32(knobs.piano_hammer, 1e-3),
@@ -61,12 +61,12 @@ pub fn hammer_blow(knobs: PianoKnobs, gain: f32, pitch: f32) -> Blow
 }
 
 // The frequency ratio of partial k, which stiffness stretches.
-fn ratio_of(b_inharm: f32, k: usize) -> f32
+fn ratio_of(stretch: f32, k: usize) -> f32
     requires { k ≤ 18 }
-    ensures { result ≡ ratio_of b_inharm k }
+    ensures { result ≡ ratio_of stretch k }
 {
     let kf = k as f32;
-    kf * rounding::sqrt_f32(1.0 + b_inharm * kf * kf)
+    kf * rounding::sqrt_f32(1.0 + stretch * kf * kf)
 }
 
 // Partial k at the start. Its phases are spread by the golden ratio, so that no two partials start
@@ -78,7 +78,7 @@ fn partial_of(b: Blow, srf: f32, k: usize, ratio: f32) -> Partial
     let kf = k as f32;
     let notch = float::abs_f32(dsp::sin(PI * kf * b.strike));
     let tilt = dsp::powf(b.bright, (kf - 1.0) * 0.18 / b.hammer);
-    let decay = float::max_f32(b.base_decay / (1.0 + 0.55 * (kf - 1.0)), 0.05);
+    let decay = float::max_f32(b.decay / (1.0 + 0.55 * (kf - 1.0)), 0.05);
     Partial {
         step: ratio,
         amp: notch / kf * tilt,
@@ -104,7 +104,7 @@ pub fn piano_partials(b: Blow, srf: f32) -> Partials
     let mut items = [none; 18];
     let mut j = 0usize;
     while j < 18 {
-        let ratio = ratio_of(b.b_inharm, j + 1);
+        let ratio = ratio_of(b.stretch, j + 1);
         if ratio * b.f0 > 0.45 * srf {
             return Partials { items, count: j };
         }

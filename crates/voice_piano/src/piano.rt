@@ -47,7 +47,7 @@ fn piano_at(
     fi: f32,
     srf: f32,
     count: usize,
-    string_det: Pair,
+    det: Pair,
     norm: f32,
     i: usize,
     s: PianoState,
@@ -61,12 +61,12 @@ fn piano_at(
     requires count_bound { count ≤ 18 }
     requires x_len { (length x.old ≡ 384) × (length near.old ≡ 384) × (length q.old ≡ 384) × (length wide.old ≡ 384) × (length sines.old ≡ 384) }
     ensures x_len_2 { (length x.new ≡ 384) × (length near.new ≡ 384) × (length q.new ≡ 384) × (length wide.new ≡ 384) × (length sines.new ≡ 384) }
-    ensures sample_value { result.sample ≡ (piano_at fi srf string_det norm i (heard count s)).sample }
-    ensures state_value { heard count result.state ≡ (piano_at fi srf string_det norm i (heard count s)).state }
+    ensures sample_value { result.sample ≡ (piano_at fi srf det norm i (heard count s)).sample }
+    ensures state_value { heard count result.state ≡ (piano_at fi srf det norm i (heard count s)).state }
 {
     let dt = osc::phase_step(fi, srf);
     let items = s.items;
-    let w = wires_at(items, count, dt, string_det, x, near, q, wide, sines);
+    let w = wires_at(items, count, dt, det, x, near, q, wide, sines);
     let rng = s.rng;
     let d = thump(osc::frame_time(i, srf), rng);
     let items = w.items;
@@ -84,7 +84,7 @@ fn sound_piano(
     lane: &[f32],
     srf: f32,
     count: usize,
-    string_det: Pair,
+    det: Pair,
     norm: f32,
     start: PianoState,
     out: &mut [f32],
@@ -92,7 +92,7 @@ fn sound_piano(
     requires reaches { reaches pitch (length lane.now) (length out.old) }
     requires frames { Frames (length out.old) }
     requires count_bound { count ≤ 18 }
-    ensures out_after { out.new ≡ sound_frames (pitch_at pitch lane.now) srf string_det norm (heard count start) (length out.old) }
+    ensures out_after { out.new ≡ sound_frames (pitch_at pitch lane.now) srf det norm (heard count start) (length out.old) }
     ensures result_value { result.0 ≡ state_after start.rng.0 (passing (λ i. thumps (seconds srf i)) (length out.old)) }
 {
     let mut x = [0.0f32; 384];
@@ -107,7 +107,7 @@ fn sound_piano(
             pitch.at(lane, i),
             srf,
             count,
-            string_det,
+            det,
             norm,
             i,
             s,
@@ -157,7 +157,7 @@ pub fn piano_note(
     let items = ps.items;
     let count = ps.count;
     let norm = loudness(items, count);
-    let string_det = string_pair(knobs.piano_detune);
+    let det = string_pair(knobs.piano_detune);
     let start = PianoState { items, rng };
-    sound_piano(pitch, lane, srf, count, string_det, norm, start, out)
+    sound_piano(pitch, lane, srf, count, det, norm, start, out)
 }

@@ -45,9 +45,9 @@ pub fn string_pair(spread: f32) -> Pair
 }
 
 // A partial's frame, whose strings' sines are s0 and s1.
-fn partial_at(p: Partial, dt: f32, string_det: Pair, sum: f32, s0: f32, s1: f32) -> PartialOut
+fn partial_at(p: Partial, dt: f32, det: Pair, sum: f32, s0: f32, s1: f32) -> PartialOut
     requires { (s0 ≡ sin_of (TAU ⊗ p.phase0)) × (s1 ≡ sin_of (TAU ⊗ p.phase1)) }
-    ensures { (result.sum ≡ added sum p) × (result.partial ≡ moved dt string_det p) }
+    ensures { (result.sum ≡ added sum p) × (result.partial ≡ moved dt det p) }
 {
     let inc = dt * p.step;
     let a = p.amp * p.env;
@@ -58,8 +58,8 @@ fn partial_at(p: Partial, dt: f32, string_det: Pair, sum: f32, s0: f32, s1: f32)
         amp: p.amp,
         env: p.env * p.dmul,
         dmul: p.dmul,
-        phase0: osc::wrap(p.phase0 + inc * string_det.first),
-        phase1: osc::wrap(p.phase1 + inc * string_det.second),
+        phase0: osc::wrap(p.phase0 + inc * det.first),
+        phase1: osc::wrap(p.phase1 + inc * det.second),
     };
     PartialOut { sum: both, partial }
 }
@@ -85,24 +85,18 @@ fn turns(items: [Partial; 18], count: usize, x: &mut [f32; 384])
 }
 
 // A frame of the first `count` partials, in order, by their sines.
-fn wires_by(
-    items: [Partial; 18],
-    count: usize,
-    dt: f32,
-    string_det: Pair,
-    s: &[f32; 384],
-) -> WiresOut
+fn wires_by(items: [Partial; 18], count: usize, dt: f32, det: Pair, s: &[f32; 384]) -> WiresOut
     requires count_bound { count ≤ 18 }
     requires by_index { (j : ℕ) → j < count → (slice_index_or s.now (j * 2) nan ≡ sin_of (TAU ⊗ (get_or items j no_partial).phase0))
         × (slice_index_or s.now (j * 2 + 1) nan ≡ sin_of (TAU ⊗ (get_or items j no_partial).phase1)) }
-    ensures { (result.sum ≡ foldl added c0 (take count items)) × (take count result.items ≡ map (moved dt string_det) (take count items)) }
+    ensures { (result.sum ≡ foldl added c0 (take count items)) × (take count result.items ≡ map (moved dt det) (take count items)) }
 {
     let mut parts = items;
     let mut sum = 0.0f32;
     let mut j = 0usize;
     while j < count {
         let p = parts[j];
-        let r = partial_at(p, dt, string_det, sum, s[j * 2], s[j * 2 + 1]);
+        let r = partial_at(p, dt, det, sum, s[j * 2], s[j * 2 + 1]);
         let q = r.partial;
         parts[j] = q;
         sum = r.sum;
@@ -116,7 +110,7 @@ pub fn wires_at(
     items: [Partial; 18],
     count: usize,
     dt: f32,
-    string_det: Pair,
+    det: Pair,
     x: &mut [f32; 384],
     near: &mut [f64; 384],
     q: &mut [f64; 384],
@@ -126,11 +120,11 @@ pub fn wires_at(
     requires count_bound { count ≤ 18 }
     requires x_len { (length x.old ≡ 384) × (length near.old ≡ 384) × (length q.old ≡ 384) × (length wide.old ≡ 384) × (length s.old ≡ 384) }
     ensures x_len_2 { (length x.new ≡ 384) × (length near.new ≡ 384) × (length q.new ≡ 384) × (length wide.new ≡ 384) × (length s.new ≡ 384) }
-    ensures sum_value { (result.sum ≡ foldl added c0 (take count items)) × (take count result.items ≡ map (moved dt string_det) (take count items)) }
+    ensures sum_value { (result.sum ≡ foldl added c0 (take count items)) × (take count result.items ≡ map (moved dt det) (take count items)) }
 {
     turns(items, count, x);
     sin_block::sinf_block(x, count * 2, near, q, wide, s);
-    wires_by(items, count, dt, string_det, s)
+    wires_by(items, count, dt, det, s)
 }
 
 // The sum of their amplitudes, from -0 on as Rust's `sum` has it.

@@ -28,7 +28,7 @@ unfoldable pub plucked : PluckKnobs → Timbre → Float → ℕ → Float → F
 plucked k g srf i y next s =
     let pick = picked k.pluck_pick (seconds srf i) y s.pick in
     let echoes = all_rung g y s.echoes in
-    let bodySum = c0 ⊕ echoes.air.by1 ⊕ echoes.top.by1 ⊕ echoes.back.by1 in
+    let bodySum = c0 ⊕ echoes.air.y1 ⊕ echoes.top.y1 ⊕ echoes.back.y1 in
     let avg = (c0·5 ⊕ c0·5 ⊗ g.bright) ⊗ y ⊕ (c0·5 ⊖ c0·5 ⊗ g.bright) ⊗ next in
     let lp = s.lp ⊕ g.damp ⊗ (avg ⊖ s.lp) in
     let filt = (c1 ⊖ g.damp) ⊗ avg ⊕ g.damp ⊗ lp in
@@ -61,7 +61,7 @@ ring_at k g srf i s =
 unfoldable pub at_rest : PluckState
 at_rest =
     record {
-      echoes = record { air = record { by1 = c0; by2 = c0 }; top = record { by1 = c0; by2 = c0 }; back = record { by1 = c0; by2 = c0 } };
+      echoes = record { air = record { y1 = c0; y2 = c0 }; top = record { y1 = c0; y2 = c0 }; back = record { y1 = c0; y2 = c0 } };
       pick = record { hp_in = c0; hp_out = c0 };
       lp = c0;
     }

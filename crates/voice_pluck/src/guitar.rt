@@ -12,12 +12,12 @@ pub struct Mode {
 }
 
 // How bright and how damped the string is, and the body: Helmholtz air, top plate and back. They
-// decay alike, so the weight body_a2 of the value before the last is one for all.
+// decay alike, so the weight a2 of the value before the last is one for all.
 #[derive(Clone, Copy)]
 pub struct Timbre {
     pub bright: f32,
     pub damp: f32,
-    pub body_a2: f32,
+    pub a2: f32,
     pub air: Mode,
     pub top: Mode,
     pub back: Mode,
@@ -26,8 +26,8 @@ pub struct Timbre {
 // The last value of a resonance, and the one before it.
 #[derive(Clone, Copy)]
 pub struct Echo {
-    pub by1: f32,
-    pub by2: f32,
+    pub y1: f32,
+    pub y2: f32,
 }
 
 #[derive(Clone, Copy)]
@@ -37,12 +37,12 @@ pub struct Echoes {
     pub back: Echo,
 }
 
-fn resonance(srf: f32, body_r: f32, fr: f32, g: f32) -> Mode
-    ensures { result ≡ mode_of srf body_r fr g }
+fn resonance(srf: f32, radius: f32, fr: f32, g: f32) -> Mode
+    ensures { result ≡ mode_of srf radius fr g }
 {
     let w0 = dsp::TAU * fr / srf;
     Mode {
-        a1: 2.0 * body_r * dsp::cos(w0),
+        a1: 2.0 * radius * dsp::cos(w0),
         b0: g * dsp::sin(w0),
     }
 }
@@ -52,14 +52,14 @@ pub fn guitar_timbre(tone: f32, srf: f32) -> Timbre
 {
     let bright = float::max_f32(tone, 0.0);
     let damp = float::max_f32(-tone, 0.0);
-    let body_r = dsp::exp(NEG_LN_1000 / (0.25 * srf));
-    let air = resonance(srf, body_r, 100.0, 1.0);
-    let top = resonance(srf, body_r, 215.0, 0.8);
-    let back = resonance(srf, body_r, 400.0, 0.5);
+    let radius = dsp::exp(NEG_LN_1000 / (0.25 * srf));
+    let air = resonance(srf, radius, 100.0, 1.0);
+    let top = resonance(srf, radius, 215.0, 0.8);
+    let back = resonance(srf, radius, 400.0, 0.5);
     Timbre {
         bright,
         damp,
-        body_a2: -body_r * body_r,
+        a2: -radius * radius,
         air,
         top,
         back,
@@ -67,20 +67,20 @@ pub fn guitar_timbre(tone: f32, srf: f32) -> Timbre
 }
 
 // A resonance one frame on, driven by y.
-fn ring(body_a2: f32, m: Mode, y: f32, e: Echo) -> Echo
-    ensures { result ≡ rung body_a2 m y e }
+fn ring(a2: f32, m: Mode, y: f32, e: Echo) -> Echo
+    ensures { result ≡ rung a2 m y e }
 {
     Echo {
-        by1: m.b0 * y + m.a1 * e.by1 + body_a2 * e.by2,
-        by2: e.by1,
+        y1: m.b0 * y + m.a1 * e.y1 + a2 * e.y2,
+        y2: e.y1,
     }
 }
 
 pub fn ring_all(g: Timbre, y: f32, e: Echoes) -> Echoes
     ensures { result ≡ all_rung g y e }
 {
-    let air = ring(g.body_a2, g.air, y, e.air);
-    let top = ring(g.body_a2, g.top, y, e.top);
-    let back = ring(g.body_a2, g.back, y, e.back);
+    let air = ring(g.a2, g.air, y, e.air);
+    let top = ring(g.a2, g.top, y, e.top);
+    let back = ring(g.a2, g.back, y, e.back);
     Echoes { air, top, back }
 }

@@ -78,7 +78,7 @@ fn pluck_at(
 {
     let pick = click(k.pluck_pick, osc::frame_time(i, srf), y, s.pick);
     let echoes = ring_all(g, y, s.echoes);
-    let body_sum = 0.0 + echoes.air.by1 + echoes.top.by1 + echoes.back.by1;
+    let body_sum = 0.0 + echoes.air.y1 + echoes.top.y1 + echoes.back.y1;
     let avg = (0.5 + 0.5 * g.bright) * y + (0.5 - 0.5 * g.bright) * next;
     let lp = s.lp + g.damp * (avg - s.lp);
     let filt = (1.0 - g.damp) * avg + g.damp * lp;
@@ -107,9 +107,9 @@ fn turn(spos: usize, n: usize) -> usize
 fn at_rest() -> PluckState
     ensures { result ≡ at_rest }
 {
-    let air = Echo { by1: 0.0, by2: 0.0 };
-    let top = Echo { by1: 0.0, by2: 0.0 };
-    let back = Echo { by1: 0.0, by2: 0.0 };
+    let air = Echo { y1: 0.0, y2: 0.0 };
+    let top = Echo { y1: 0.0, y2: 0.0 };
+    let back = Echo { y1: 0.0, y2: 0.0 };
     let echoes = Echoes { air, top, back };
     let pick = Pick {
         hp_in: 0.0,

@@ -4,6 +4,7 @@
 #![tactic(auto)]
 
 ghost use Rattle.std.specs.Prelude.{◌≤◌, ◌<◌};
+ghost use Rattle.programs.specs.Streams.{Grows};
 
 use raw_knobs::VoiceAt;
 use rng::Rng;
@@ -57,6 +58,7 @@ fn bar_values(line: &[u8], from: usize) -> [f32; 10]
 
 fn print_samples<W: Write>(writer: &mut W, out: &[f32; 128], frames: usize) -> io::Result<()>
     requires { frames ≤ 128 }
+    ensures { Grows (W.contents writer.old) (W.contents writer.new) }
 {
     let mut i = 0;
     while i < frames {
@@ -90,6 +92,7 @@ fn sound(
 
 fn play<W: Write>(writer: &mut W, line: &[u8], frames: usize, count: usize) -> io::Result<()>
     requires { (0 < count) × (count ≤ 128) × (frames ≤ 128) }
+    ensures { Grows (W.contents writer.old) (W.contents writer.new) }
 {
     let pitch = values(line, 8, count);
     let duty = values(line, 8 + count, count);
@@ -109,7 +112,9 @@ fn play<W: Write>(writer: &mut W, line: &[u8], frames: usize, count: usize) -> i
 }
 
 // A line whose numbers are out of range gets no answer.
-fn replay_line<W: Write>(writer: &mut W, line: &[u8]) -> io::Result<()> {
+fn replay_line<W: Write>(writer: &mut W, line: &[u8]) -> io::Result<()>
+    ensures { Grows (W.contents writer.old) (W.contents writer.new) }
+{
     vectors::print_text(writer, line)?;
     let frames = vectors::u64_field(line, 6);
     let count = vectors::u64_field(line, 7);
@@ -123,7 +128,9 @@ fn replay_line<W: Write>(writer: &mut W, line: &[u8]) -> io::Result<()> {
     vectors::print_text(writer, b"\n")
 }
 
-fn replay<W: Write>(writer: &mut W, text: &[u8]) -> io::Result<()> {
+fn replay<W: Write>(writer: &mut W, text: &[u8]) -> io::Result<()>
+    ensures { Grows (W.contents writer.old) (W.contents writer.new) }
+{
     let mut at = 0;
     while at < text.len() {
         let end = vectors::line_end(text, at);

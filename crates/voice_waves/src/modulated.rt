@@ -15,20 +15,20 @@ use dsl::{FmKnobs, Reading};
 
 // The phases of the carrier and of the modulator.
 #[derive(Clone, Copy)]
-struct FmState {
-    cph: f32,
-    mph: f32,
+pub struct FmState {
+    pub cph: f32,
+    pub mph: f32,
 }
 
 // A frame of the definition.
 #[derive(Clone, Copy)]
-struct FmOut {
-    sample: f32,
-    state: FmState,
+pub struct FmOut {
+    pub sample: f32,
+    pub state: FmState,
 }
 
 // The phases before the next frame.
-fn fm_next(knobs: FmKnobs, s: FmState, dt: f32) -> FmState
+pub fn fm_next(knobs: FmKnobs, s: FmState, dt: f32) -> FmState
     ensures { result ≡ fm_next knobs s dt }
 {
     FmState {

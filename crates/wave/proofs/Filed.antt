@@ -1,14 +1,12 @@
 -- What was read and what is written, from the contracts of the read and of the file. Assumes nothing.
 use Prim.Native.Nat.{ℕ, ◌≤◌, ◌<◌}
-use mathlib.Core.Path.{◌≡◌, sym, ap, ◌∙◌, subst}
-use mathlib.Core.List.{List, ◌++◌}
+use mathlib.Core.Path.{◌≡◌, refl, sym, ap}
+use mathlib.Core.List.{List}
 use native.Mathlib.Omega.{arith}
 use lib.ListN.{length, take, drop, length-append}
-use lib.Seq.{length-take-le}
+use lib.Seq.{length-take-le, take_at}
 use Rattle.text_judge.proofs.Refused.{refusal_long}
 use Rattle.text_listing.specs.Lines.{printed_r}
-use Rattle.text_listing.specs.Printed.{Printed}
-use Rattle.text_listing.proofs.Put.{printed_whole}
 use Rattle.wave_file.specs.Refusal.{FileResult, refused, accepted, part_of}
 use Rattle.wave_write.specs.Write.{file_after}
 use Rattle.text_wave.specs.TextFile.{text_file, said_in, Filed}
@@ -16,56 +14,53 @@ use Rattle.text_wave.specs.declared.frames.TextWave.{TextWave}
 use Rattle.text_wave.specs.declared.frames.TextWave.TheVariants.{Bytes, Refused}
 use Rattle.text_wave.proofs.Filing.{filed_as}
 use Rattle.text_wave.proofs.Enough.{room_enough}
-use Rattle.wave.specs.Input.{shown_file, sent_of, written, Shown, InputFiled}
-use Rattle.wave.specs.declared.Sent.{Sent}
-use Rattle.wave.specs.declared.Sent.TheVariants.{File, Line}
+use Rattle.wave.specs.Input.{written, to_out, to_err, file_out, line_err, InputFiled, ReadFiled}
 
--- ---- what an answer says of the result
-record Of (r : FileResult (List ℕ)) (file₀ : List ℕ) (said : Sent) (file : List ℕ) : Type 0 where
-  answer : said ≡ sent_of r
-  bytes : file ≡ shown_file r ++ drop (written said) file₀
+-- what goes out is within the file
+fits : (r : FileResult (List ℕ)) (said : TextWave) (file₀ file : List ℕ) → said_in said ≡ part_of length r → file ≡ file_after file₀ r → written said ≤ length file
+fits r (Refused number) file₀ file e b = omega arith
+fits (refused number) (Bytes n) file₀ file e b = let z : ◌≡◌ {A = ℕ} 0 1 = cc in absurd (omega arith)
+fits (accepted bytes) (Bytes n) file₀ file e b =
+    let s : n ≡ length bytes = cc in
+    omega (arith, ap length b, length-append bytes (drop (length bytes) file₀))
 
-file_from : (r : FileResult (List ℕ)) (n : ℕ) (file₀ file : List ℕ) → accepted n ≡ part_of length r → file ≡ file_after file₀ r → Of r file₀ (File n) file
-file_from (refused number) n file₀ file e b = let z : ◌≡◌ {A = ℕ} 0 1 = cc in absurd (omega arith)
-file_from (accepted bytes) n file₀ file e b = let is : n ≡ length bytes = cc in record { answer = ap File is; bytes = rw is b }
+-- and it is the file, or the line
+out_is : (r : FileResult (List ℕ)) (said : TextWave) (file₀ file : List ℕ) → said_in said ≡ part_of length r → file ≡ file_after file₀ r → to_out said file ≡ file_out r
+out_is (refused k) (Refused number) file₀ file e b = refl
+out_is (refused k) (Bytes n) file₀ file e b = let z : ◌≡◌ {A = ℕ} 0 1 = cc in absurd (omega arith)
+out_is (accepted bytes) (Refused number) file₀ file e b = let z : ◌≡◌ {A = ℕ} 0 1 = cc in absurd (omega arith)
+out_is (accepted bytes) (Bytes n) file₀ file e b =
+    let s : n ≡ length bytes = cc in
+    rw b (take_at bytes (drop (length bytes) file₀) n (sym s))
 
-line_from : (r : FileResult (List ℕ)) (number : ℕ) (file₀ file : List ℕ) → refused number ≡ part_of length r → file ≡ file_after file₀ r → {n : ℕ} {file₁ : List ℕ}
-    → Printed (printed_r number) 0 file n file₁ → Of r file₀ (Line n) file₁
-line_from (refused k) number file₀ file e b {n} {file₁} p =
-    let is : number ≡ k = cc in
-    let long : n ≡ length (printed_r k) = p.after ∙ rw is (omega arith) in
-    record { answer = ap Line long; bytes = printed_whole p ∙ rw (is, b) }
-line_from (accepted bytes) number file₀ file e b p = let z : ◌≡◌ {A = ℕ} 0 1 = cc in absurd (omega arith)
-
-module _ (text : List ℕ) {file₀ file : List ℕ} {said : TextWave} (h : Filed (text_file text (length file₀)) file₀ said file) (room : 8250 ≤ length file₀) where
-  here : Filed (text_file text 8250) file₀ said file
-  here = filed_as (room_enough (length file₀) room text) h
-
-  pub put_bytes : (n : ℕ) → said ≡ Bytes n → Shown text file₀ (File n) file
-  put_bytes n e = let f = file_from (text_file text 8250) n file₀ file (ap said_in (sym e) ∙ here.answer) here.bytes in record { answer = f.answer; bytes = f.bytes }
-
-  pub put_line : (number : ℕ) → said ≡ Refused number → {n : ℕ} {file₁ : List ℕ} → Printed (printed_r number) 0 file n file₁ → Shown text file₀ (Line n) file₁
-  put_line number e p = let f = line_from (text_file text 8250) number file₀ file (ap said_in (sym e) ∙ here.answer) here.bytes p in record { answer = f.answer; bytes = f.bytes }
+err_is : (r : FileResult (List ℕ)) (said : TextWave) (file : List ℕ) → said_in said ≡ part_of length r → to_err said file ≡ line_err r
+err_is (refused k) (Refused number) file e = let s : number ≡ k = cc in ap printed_r s
+err_is (refused k) (Bytes n) file e = let z : ◌≡◌ {A = ℕ} 0 1 = cc in absurd (omega arith)
+err_is (accepted bytes) (Refused number) file e = let z : ◌≡◌ {A = ℕ} 0 1 = cc in absurd (omega arith)
+err_is (accepted bytes) (Bytes n) file e = refl
 
 -- ---- the program
-long_refused : (text : List ℕ) → 65536 < length text → text_file text 8250 ≡ refused 16
-unfolding text_file
-long_refused text more = rw (sym (refusal_long text more))
+module _ (score file₀ file : List ℕ) (read : ℕ) {said : TextWave} (within : read ≤ length score) (h : Filed (text_file (take read score) (length file₀)) file₀ said file) where
+  pub input_filed : 65536 < length score → 8250 ≤ length file₀ → InputFiled score file₀ said file
+  input_filed more room =
+      record {
+        read = read;
+        within = within;
+        full = λ e. let l = length-take-le read score within in sym (refusal_long (take read score) (omega arith));
+        filed = filed_as (room_enough (length file₀) room (take read score)) h;
+      }
 
-fits : (r : FileResult (List ℕ)) (said : Sent) (file₀ file : List ℕ) → said ≡ sent_of r → file ≡ shown_file r ++ drop (written said) file₀ → written said ≤ length file
-fits (refused number) said file₀ file e b =
-    let n : written said ≡ length (printed_r number) = ap written e in
-    omega (arith, ap length b, length-append (printed_r number) (drop (written said) file₀))
-fits (accepted bytes) said file₀ file e b =
-    let n : written said ≡ length bytes = ap written e in
-    omega (arith, ap length b, length-append bytes (drop (written said) file₀))
-
-module _ (score file₀ file : List ℕ) (read : ℕ) {count : ℕ} {said : Sent} (is : count ≡ read) (within : read ≤ length score) (q : Shown (take count score) file₀ said file) where
-  h : Shown (take read score) file₀ said file
-  h = subst (λ (n : ℕ). Shown (take n score) file₀ said file) is q
-
-  pub input_filed : 65536 < length score → InputFiled score read file₀ said file
-  input_filed more = record { full = λ e. let l = length-take-le read score within in long_refused (take read score) (omega arith); shown = h }
+  -- of a count that was read, and what goes out for it
+  pub read_filed : 65536 < length score → 8250 ≤ length file₀ → ReadFiled score read file₀ said file
+  read_filed more room =
+      let f = filed_as (room_enough (length file₀) room (take read score)) h in
+      record {
+        within = within;
+        full = λ e. let l = length-take-le read score within in sym (refusal_long (take read score) (omega arith));
+        filed = f;
+        out = out_is (text_file (take read score) 8250) said file₀ file f.answer f.bytes;
+        err = err_is (text_file (take read score) 8250) said file f.answer;
+      }
 
   pub written_fits : written said ≤ length file
-  written_fits = fits (text_file (take read score) 8250) said file₀ file h.answer h.bytes
+  written_fits = fits (text_file (take read score) (length file₀)) said file₀ file h.answer h.bytes

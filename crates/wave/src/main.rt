@@ -2,23 +2,16 @@
 // a score that is refused it writes nothing there, and the line R with the number to standard error.
 #![tactic(auto)]
 
-ghost use Rattle.std.specs.Prelude.{◌≡◌, ◌<◌, ◌≤◌, length, OnOk};
-ghost use Rattle.std.specs.Io.KnownBytes.{Appends};
+ghost use Rattle.std.specs.Prelude.{◌≡◌, ◌<◌, ◌≤◌, ℕ, length, take, IfOk, OnOk, OnErr};
+ghost use Rattle.std.specs.Io.KnownBytes.{Appends, Consumes};
 ghost use Rattle.programs.specs.Counts.{IsPrefixLen};
-ghost use Rattle.wave.specs.Input.{written, to_out, to_err, Shown, InputFiled};
+ghost use Rattle.programs.specs.Streams.{AppendsPart, ConsumesPart};
+ghost use Rattle.wave.specs.Input.{written, to_out, to_err, InputFiled, ReadFiled};
 
-use programs::{Input, input_buffer, read_input};
+use programs::{Input, input_buffer, print_all, print_refusal, read_input};
 use std::io;
-use std::io::Write;
-use text_listing::put_refusal;
+use std::io::{Read, Write};
 use text_wave::TextWave;
-
-// How many bytes of the file buffer go out: a file, or the line of a refusal.
-#[derive(Clone, Copy)]
-enum Sent {
-    File(usize),
-    Line(usize),
-}
 
 // As long as the longest file: 58 bytes, and four for each of 2,048 frames.
 fn file_buffer() -> [u8; 8250]
@@ -27,45 +20,56 @@ fn file_buffer() -> [u8; 8250]
     [0u8; 8250]
 }
 
-// Puts the file of `text` at the start of `file`, or the line of what refuses it.
-fn put_file(text: &[u8], file: &mut [u8]) -> Sent
-    requires { 8250 ≤ length file.old }
-    ensures { Shown text.now file.old result file.new }
-{
-    match text_wave::wave_text(text, file) {
-        TextWave::Bytes(length) => Sent::File(length),
-        TextWave::Refused(number) => Sent::Line(put_refusal(file, number)),
-    }
-}
-
-// Puts the file of what was read, the first bytes of `score`, at the start of `file`.
-fn file_input(score: &[u8], input: Input, file: &mut [u8]) -> Sent
+// Puts the file of what was read, the first bytes of `score`, at the start of `file`, which has room for any.
+fn file_read(score: &[u8], input: Input, file: &mut [u8]) -> TextWave
     requires in_bounds { 65536 < length score.now }
     requires prefix_len { IsPrefixLen input.0 score.now }
     requires in_bounds_2 { 8250 ≤ length file.old }
-    ensures input_filed { InputFiled score.now input.0 file.old result file.new }
+    ensures read_filed { ReadFiled score.now input.0 file.old result file.new }
     ensures result_in_bounds { written result ≤ length file.new }
 {
     let read = input.count();
-    put_file(&score[..read], file)
+    text_wave::wave_text(&score[..read], file)
 }
 
-// A file goes to `out`, the line of a refusal to `err`.
-fn answer<O: Write, E: Write>(out: &mut O, err: &mut E, said: Sent, file: &[u8]) -> io::Result<()>
+// Reads the input into `score` and puts its file at the start of `file`, which has room for any. A read that
+// fails ends it with that read's error.
+fn file_input<R: Read>(input: &mut R, score: &mut [u8], file: &mut [u8]) -> io::Result<TextWave>
+    requires in_bounds { 65536 < length score.old }
+    requires in_bounds_2 { 8250 ≤ length file.old }
+    ensures input_filed { IfOk result (λ said. InputFiled score.new file.old said file.new) }
+    ensures of_input { IfOk result (λ said. (read : ℕ) × Consumes (R.remaining input.old) (R.remaining input.new) (take read score.new)
+        × ReadFiled score.new read file.old said file.new) }
+    ensures result_in_bounds { IfOk result (λ said. written said ≤ length file.new) }
+    ensures part { OnErr result (ConsumesPart (R.remaining input.old) (R.remaining input.new) score.new) }
+    ensures file_left { OnErr result (file.new ≡ file.old) }
+{
+    let read = read_input(input, score)?;
+    Ok(file_read(score, read, file))
+}
+
+// A file goes to `out`, the line of a refusal to `err`. A write that fails ends it with that write's error.
+fn answer<O: Write, E: Write>(
+    out: &mut O,
+    err: &mut E,
+    said: TextWave,
+    file: &[u8],
+) -> io::Result<()>
     requires { written said ≤ length file.now }
     ensures file_out { OnOk result (Appends (O.contents out.old) (O.contents out.new) (to_out said file.now)) }
     ensures line_out { OnOk result (Appends (E.contents err.old) (E.contents err.new) (to_err said file.now)) }
+    ensures file_part { OnErr result (AppendsPart (O.contents out.old) (O.contents out.new) (to_out said file.now)) }
+    ensures line_part { OnErr result (AppendsPart (E.contents err.old) (E.contents err.new) (to_err said file.now)) }
 {
     match said {
-        Sent::File(length) => out.write_all(&file[..length]),
-        Sent::Line(length) => err.write_all(&file[..length]),
+        TextWave::Bytes(length) => print_all(out, &file[..length]),
+        TextWave::Refused(number) => print_refusal(err, number),
     }
 }
 
 fn main(rt: HostRuntime) -> io::Result<()> {
     let mut score = input_buffer();
-    let input = read_input(&mut rt.stdin(), &mut score)?;
     let mut file = file_buffer();
-    let said = file_input(&score, input, &mut file);
+    let said = file_input(&mut rt.stdin(), &mut score, &mut file)?;
     answer(&mut rt.stdout(), &mut rt.stderr(), said, &file)
 }

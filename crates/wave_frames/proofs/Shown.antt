@@ -10,14 +10,14 @@ use Rattle.laws.proofs.If.{if_true, if_false}
 use Rattle.programs.specs.Counts.{IsPrefixLen}
 use Rattle.text_listing.specs.Lines.{printed_r, lines_of}
 use Rattle.text_listing.specs.Printed.{Printed, FramesRoom}
-use Rattle.text_listing.proofs.Put.{printed_as, printed_fits}
+use Rattle.text_listing.proofs.Put.{printed_fits}
 use Rattle.wave_file.specs.Refusal.{FileResult, refused, accepted, part_of, number_of}
 use Rattle.wave_file.specs.declared.refusal.FileRefusal.{FileRefusal}
 use Rattle.wave_read.specs.Reading.{Wave}
 use Rattle.wave_read.specs.Read.{read_result, Extent, extent_of, read_in, samples_after, Reads}
 use Rattle.wave_read.specs.declared.read.WaveRead.{WaveRead}
 use Rattle.wave_read.specs.declared.read.WaveRead.TheVariants.{Samples, Refused}
-use Rattle.wave_frames.specs.Input.{shown_read, file_lines, InputShown}
+use Rattle.wave_frames.specs.Input.{shown_read, file_lines, InputShown, ReadShown}
 
 pub shown_long : (file : List ℕ) → 65536 < length file → printed_r 23 ≡ file_lines file
 unfolding file_lines
@@ -57,12 +57,24 @@ pub lines_room : {count n size : ℕ} → count ≤ 2048 → count ≡ n → 327
 lines_room a b c = record { frames = omega arith; bytes = omega arith }
 
 -- ---- the program
-module _ (file page₀ page : List ℕ) (read : ℕ) {count written : ℕ} (is : count ≡ read) (within : read ≤ length file) (q : Printed (file_lines (take count file)) 0 page₀ written page) where
-  p : Printed (file_lines (take read file)) 0 page₀ written page
-  p = printed_as (ap (λ (n : ℕ). file_lines (take n file)) is) q
+module _ (file page₀ page : List ℕ) (read : ℕ) {written : ℕ} (within : read ≤ length file) (p : Printed (file_lines (take read file)) 0 page₀ written page) where
+  pub input_shown : 65536 < length file → InputShown file page₀ written page
+  input_shown more =
+      record {
+        read = read;
+        within = within;
+        full = λ e. let l = length-take-le read file within in sym (shown_long (take read file) (omega arith));
+        lines = p;
+      }
 
-  pub input_shown : 65536 < length file → InputShown file read page₀ written page
-  input_shown more = record { full = λ e. let l = length-take-le read file within in sym (shown_long (take read file) (omega arith)); lines = p }
+  -- of a count that was read
+  pub read_shown : 65536 < length file → ReadShown file read page₀ written page
+  read_shown more =
+      record {
+        within = within;
+        full = λ e. let l = length-take-le read file within in sym (shown_long (take read file) (omega arith));
+        lines = p;
+      }
 
   pub written_counts : IsPrefixLen written page
   written_counts = let fits = printed_fits p in (fits, sym (length-take-le written page fits))

@@ -7,6 +7,7 @@
 #![tactic(auto)]
 
 ghost use Rattle.std.specs.Prelude.{◌≤◌, ◌<◌, length, IfOk};
+ghost use Rattle.programs.specs.Streams.{Grows};
 
 use std::io;
 use std::io::{BufWriter, Write};
@@ -20,15 +21,28 @@ const MOST_BYTES: usize = 256;
 // What lent places hold before a call.
 const POINTS: u32 = 0x2e2e_2e2e;
 
-fn print_sample<W: Write>(writer: &mut W, x: u32) -> io::Result<()> {
+fn print_sample<W: Write>(writer: &mut W, x: u32) -> io::Result<()>
+    ensures { Grows (W.contents writer.old) (W.contents writer.new) }
+{
     vectors::print_u64(writer, x as u64)
 }
 
-fn print_byte<W: Write>(writer: &mut W, b: u8) -> io::Result<()> {
-    write!(writer, " {b:02x}")
+// The byte of a hexadecimal digit.
+fn hex_digit(v: u8) -> u8
+    requires { v < 16 }
+{
+    if v < 10 { b'0' + v } else { b'a' - 10 + v }
 }
 
-fn print_samples<W: Write>(writer: &mut W, samples: &[u32]) -> io::Result<()> {
+fn print_byte<W: Write>(writer: &mut W, b: u8) -> io::Result<()>
+    ensures { Grows (W.contents writer.old) (W.contents writer.new) }
+{
+    vectors::print_text(writer, &[b' ', hex_digit(b / 16), hex_digit(b % 16)])
+}
+
+fn print_samples<W: Write>(writer: &mut W, samples: &[u32]) -> io::Result<()>
+    ensures { Grows (W.contents writer.old) (W.contents writer.new) }
+{
     let mut i = 0;
     while i < samples.len() {
         print_sample(writer, samples[i])?;
@@ -37,7 +51,9 @@ fn print_samples<W: Write>(writer: &mut W, samples: &[u32]) -> io::Result<()> {
     Ok(())
 }
 
-fn print_bytes<W: Write>(writer: &mut W, bytes: &[u8]) -> io::Result<()> {
+fn print_bytes<W: Write>(writer: &mut W, bytes: &[u8]) -> io::Result<()>
+    ensures { Grows (W.contents writer.old) (W.contents writer.new) }
+{
     let mut i = 0;
     while i < bytes.len() {
         print_byte(writer, bytes[i])?;
@@ -51,7 +67,9 @@ fn read_call<W: Write>(
     line: &[u8],
     file: &[u8],
     samples: &mut [u32],
-) -> io::Result<()> {
+) -> io::Result<()>
+    ensures { Grows (W.contents writer.old) (W.contents writer.new) }
+{
     let mut rate = POINTS;
     let answer = tono_wave::read(file, &mut rate, samples);
     vectors::print_text(writer, line)?;
@@ -66,7 +84,9 @@ fn write_call<W: Write>(
     line: &[u8],
     samples: &[u32],
     file: &mut [u8],
-) -> io::Result<()> {
+) -> io::Result<()>
+    ensures { Grows (W.contents writer.old) (W.contents writer.new) }
+{
     let rate = vectors::u32_field(line, 3);
     let answer = tono_wave::write(rate, samples, file);
     vectors::print_text(writer, line)?;
@@ -90,25 +110,33 @@ fn samples_in(bytes: &[u8], samples: &mut [u32]) -> usize
     i
 }
 
-fn read_case<W: Write>(writer: &mut W, line: &[u8], file: &[u8]) -> io::Result<()> {
+fn read_case<W: Write>(writer: &mut W, line: &[u8], file: &[u8]) -> io::Result<()>
+    ensures { Grows (W.contents writer.old) (W.contents writer.new) }
+{
     let room = vectors::length_field(line, 2, MOST_SAMPLES);
     let mut samples = [POINTS; 32];
     read_call(writer, line, file, &mut samples[..room])
 }
 
-fn write_case<W: Write>(writer: &mut W, line: &[u8], samples: &[u32]) -> io::Result<()> {
+fn write_case<W: Write>(writer: &mut W, line: &[u8], samples: &[u32]) -> io::Result<()>
+    ensures { Grows (W.contents writer.old) (W.contents writer.new) }
+{
     let room = vectors::length_field(line, 2, MOST_BYTES);
     let mut file = [b'.'; 256];
     write_call(writer, line, samples, &mut file[..room])
 }
 
-fn write_bytes<W: Write>(writer: &mut W, line: &[u8], bytes: &[u8]) -> io::Result<()> {
+fn write_bytes<W: Write>(writer: &mut W, line: &[u8], bytes: &[u8]) -> io::Result<()>
+    ensures { Grows (W.contents writer.old) (W.contents writer.new) }
+{
     let mut samples = [0; 32];
     let count = samples_in(bytes, &mut samples);
     write_case(writer, line, &samples[..count])
 }
 
-fn replay_case<W: Write>(writer: &mut W, line: &[u8], bytes: &[u8]) -> io::Result<()> {
+fn replay_case<W: Write>(writer: &mut W, line: &[u8], bytes: &[u8]) -> io::Result<()>
+    ensures { Grows (W.contents writer.old) (W.contents writer.new) }
+{
     if vectors::is_named(line, b"read") {
         read_case(writer, line, bytes)?;
     } else {
@@ -120,7 +148,8 @@ fn replay_case<W: Write>(writer: &mut W, line: &[u8], bytes: &[u8]) -> io::Resul
 // The place after the case at `at`: its line, and its bytes, or as many as are left.
 fn replay_from<W: Write>(writer: &mut W, input: &[u8], at: usize) -> io::Result<usize>
     requires { at < length input.now }
-    ensures { IfOk result (λ next. (at < next) × (next ≤ length input.now)) }
+    ensures next { IfOk result (λ next. (at < next) × (next ≤ length input.now)) }
+    ensures grows { Grows (W.contents writer.old) (W.contents writer.new) }
 {
     let end = vectors::line_end(input, at);
     if end == input.len() {
@@ -134,7 +163,9 @@ fn replay_from<W: Write>(writer: &mut W, input: &[u8], at: usize) -> io::Result<
     Ok(stop)
 }
 
-fn replay<W: Write>(writer: &mut W, input: &[u8]) -> io::Result<()> {
+fn replay<W: Write>(writer: &mut W, input: &[u8]) -> io::Result<()>
+    ensures { Grows (W.contents writer.old) (W.contents writer.new) }
+{
     let mut at = 0;
     while at < input.len() {
         at = replay_from(writer, input, at)?;

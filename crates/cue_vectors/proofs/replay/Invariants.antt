@@ -1,6 +1,10 @@
--- `replay` ends: each case passes at least its line's end.
+-- `replay` ends: each case passes at least its line's end; what the writer held stays.
 use Rattle.std.proofs.Common.{◌-◌, length}
+use Rattle.programs.specs.Streams.{Grows}
 use Rattle.cue_vectors.proofs.replay.Given as goal
+
+abbrev pub invariant-loop-at : goal.invariant-loop-at
+invariant-loop-at g l = Grows (g.W.Write.contents l.initial.writer) (g.W.Write.contents l.writer)
 
 abbrev pub decreases-loop-at : goal.decreases-loop-at
 decreases-loop-at g l = length l.input - l.at

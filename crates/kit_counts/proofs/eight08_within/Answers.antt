@@ -29,4 +29,6 @@ unfolding eight08_within
 returns-in-Cowbell c = rw c.in-Cowbell.is
 
 pub returns-in_default : goal.returns-in_default
-returns-in_default c = let a = c.args in eight08_in_each a.drum a.rate a.frames c.in_default.not-Kick c.in_default.not-Rim c.in_default.not-ClosedHat c.in_default.not-OpenHat c.in_default.not-Tom c.in_default.not-Cowbell
+returns-in_default c =
+    let a = c.args in
+    eight08_in_each a.drum a.rate a.frames c.in_default.not-Kick c.in_default.not-Rim c.in_default.not-ClosedHat c.in_default.not-OpenHat c.in_default.not-Tom c.in_default.not-Cowbell

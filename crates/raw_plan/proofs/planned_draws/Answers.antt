@@ -16,7 +16,12 @@ returns-in_default c = not_planned _ (sym c.in_default.is ∙ c.parts_at.ensures
 
 pub session_of-session-requires : goal.session_of-session-requires
 session_of-session-requires c =
-    let eights : (v : SeqVoice) (m : Adsr) → Both v m ≡ parts_with (voice_at c.args.wave c.args.style c.args.knobs.now c.args.bars.now) (env_at c.args.env.now) (whole_of (length c.args.seeds.now) (length c.args.counts.now) (length c.args.points.now)) → (length c.args.seeds.now ≡ 8) × (length c.args.counts.now ≡ 8) = λ v m is. call_eights (length c.args.seeds.now) (length c.args.counts.now) (length c.args.points.now) (voice_at c.args.wave c.args.style c.args.knobs.now c.args.bars.now) (env_at c.args.env.now) v m is in
+    let eights : (v : SeqVoice) (m : Adsr) →
+    Both v m ≡ parts_with (voice_at c.args.wave c.args.style c.args.knobs.now c.args.bars.now) (env_at c.args.env.now)
+    (whole_of (length c.args.seeds.now) (length c.args.counts.now) (length c.args.points.now)) →
+    (length c.args.seeds.now ≡ 8) × (length c.args.counts.now ≡ 8) =
+    λ v m is. call_eights (length c.args.seeds.now) (length c.args.counts.now) (length c.args.points.now)
+    (voice_at c.args.wave c.args.style c.args.knobs.now c.args.bars.now) (env_at c.args.env.now) v m is in
     (let whole = eights _ _ (sym c.in-Both.is ∙ c.parts_at.ensures) in record { seeds_len = whole.0; counts_len = whole.1 })
 
 pub returns : goal.returns

@@ -5,7 +5,7 @@ use Rattle.dsl.proofs.Cases.{no_note_left}
 use Rattle.score.specs.Score.{Score, score_of}
 use Rattle.score.specs.Refusals.{note_refusal}
 use Rattle.score.proofs.Accepted.{no_note, accepted_score, fine_in, place_asks}
-use Rattle.score_notes.proofs.Sounding.{skipped_note, sound_asks, sounded_note}
+use Rattle.score_notes.proofs.Sounding.{skipped_counted, sound_asks, sounded_counted}
 use borrow.Author.Rules.{rules}
 use Rattle.score_notes.proofs.play_note.Goals as goal
 
@@ -25,7 +25,7 @@ pub returns-then-place-n : goal.returns-then-place-n
 returns-then-place-n c =
     let score_in_start : Score = score_of c.args.seq c.args.notes.now c.args.lane.now c.args.lent in
     let is = sym c.note_at.ensures ∙ c.in-Note.is in
-    let r = skipped_note score_in_start _ _ _ is c.place_note-place.ensures c.if-place-n.true c.args.rng.0 (omega (arith, c.well_formed.0)) c.args.out.now in
+    let r = skipped_counted score_in_start _ _ _ is c.place_note-place.ensures c.if-place-n.true c.args.rng.0 (omega (arith, c.well_formed.0)) c.args.out.now in
     record {
       value = r.0;
       out_after = r.1;
@@ -57,7 +57,7 @@ pub returns : goal.returns
 returns c =
     let score_in_start : Score = score_of c.args.seq c.args.notes.now c.args.lane.now c.args.lent in
     let is = sym c.note_at.ensures ∙ c.in-Note.is in
-    let r = sounded_note score_in_start _ _ _ is c.place_note-place.ensures c.if-place-n.false _ _ _ _ c.sound_counted.ensures.value c.sound_counted.ensures.out_after in
+    let r = sounded_counted score_in_start _ _ _ is c.place_note-place.ensures c.if-place-n.false _ _ _ _ c.sound_counted.ensures.value c.sound_counted.ensures.out_after in
     record {
       value = r.0;
       out_after = r.1;

@@ -21,7 +21,8 @@ returns-then-place-eq-PIANO c = if_false _ (ne_eqb _ _ c.if-place-eq-FM.false) (
 pub returns-then-place-eq-BASS : goal.returns-then-place-eq-BASS
 unfolding knob_count
 returns-then-place-eq-BASS c =
-    if_false _ (ne_eqb _ _ c.if-place-eq-FM.false) (if_false _ (ne_eqb _ _ c.if-place-eq-PLUCK.false) (if_false _ (ne_eqb _ _ c.if-place-eq-PIANO.false) (if_true _ (eq-eqb _ _ c.if-place-eq-BASS.true) refl)))
+    if_false _ (ne_eqb _ _ c.if-place-eq-FM.false) (if_false _ (ne_eqb _ _ c.if-place-eq-PLUCK.false) (if_false _ (ne_eqb _ _ c.if-place-eq-PIANO.false)
+    (if_true _ (eq-eqb _ _ c.if-place-eq-BASS.true) refl)))
 
 pub bar_count-requires : goal.bar_count-requires
 bar_count-requires c = search rules

@@ -60,7 +60,8 @@ pub returns-in-Pluck : goal.returns-in-Pluck
 unfolding draws_of wave_frames
 returns-in-Pluck c =
     let fits = period_fits c.args.rate c.requires.rate _ in
-    let kept = pluck_kept c.args.voice.pluck _ _ c.args.rng.0 _ _ _ c.pluck_note.ensures.string_after fits in rw c.in-Pluck.is (record { result_value = c.pluck_note.ensures.result_value; out_after = c.pluck_note.ensures.out_after; string_unchanged = kept })
+    let kept = pluck_kept c.args.voice.pluck _ _ c.args.rng.0 _ _ _ c.pluck_note.ensures.string_after fits in
+    rw c.in-Pluck.is (record { result_value = c.pluck_note.ensures.result_value; out_after = c.pluck_note.ensures.out_after; string_unchanged = kept })
 
 pub piano_note-requires : goal.piano_note-requires
 piano_note-requires c =

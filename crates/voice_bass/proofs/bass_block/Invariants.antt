@@ -12,7 +12,8 @@ use Rattle.voice_bass.proofs.bass_block.Given as goal
 
 abbrev pub invariant-loop-i : goal.invariant-loop-i
 invariant-loop-i l =
-    (l.i ≤ l.end) × Carried (λ i. bass_by (record { opening = get_or l.a (i - l.from) nan; fade = get_or l.e (i - l.from) nan }) (pitch_at l.pitch l.lane i) l.bass l.srf) (λ o. o.sample) (λ o. o.state) l.from l.i l.initial.out l.initial.s l.out l.s
+    (l.i ≤ l.end) × Carried (λ i. bass_by (record { opening = get_or l.a (i - l.from) nan; fade = get_or l.e (i - l.from) nan }) (pitch_at l.pitch l.lane i) l.bass l.srf)
+    (λ o. o.sample) (λ o. o.state) l.from l.i l.initial.out l.initial.s l.out l.s
 
 abbrev pub decreases-loop-i : goal.decreases-loop-i
 decreases-loop-i l = l.end - l.i

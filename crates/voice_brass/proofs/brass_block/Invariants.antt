@@ -11,7 +11,8 @@ use Rattle.voice_brass.specs.Block.{brass_by}
 use Rattle.voice_brass.proofs.brass_block.Given as goal
 
 abbrev pub invariant-loop-i : goal.invariant-loop-i
-invariant-loop-i l = (l.i ≤ l.end) × Carried (λ i. brass_by (get_or l.a (i - l.from) nan) (pitch_at l.pitch l.lane i) l.srf) (λ o. o.sample) (λ o. o.state) l.from l.i l.initial.out l.initial.s l.out l.s
+invariant-loop-i l = (l.i ≤ l.end) × Carried (λ i. brass_by (get_or l.a (i - l.from) nan) (pitch_at l.pitch l.lane i) l.srf)
+    (λ o. o.sample) (λ o. o.state) l.from l.i l.initial.out l.initial.s l.out l.s
 
 abbrev pub decreases-loop-i : goal.decreases-loop-i
 decreases-loop-i l = l.end - l.i

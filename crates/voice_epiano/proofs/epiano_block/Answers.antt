@@ -2,7 +2,7 @@
 use native.Mathlib.Omega.{arith}
 use Rattle.dsl.specs.Pitch.{pitch_at}
 use Rattle.dsl.proofs.Reach.{reaches_less}
-use Rattle.voice_epiano.proofs.Epiano.{epiano_carried}
+use Rattle.voice_epiano.proofs.Epiano.{epiano_carried_part}
 use borrow.Author.Rules.{rules}
 use Rattle.voice_epiano.proofs.epiano_block.Goals as goal
 
@@ -48,7 +48,8 @@ returns c =
     record {
       x_len_2 = (bent.0, c.sinf_block-2.ensures.near_len.0, c.sinf_block-2.ensures.near_len.1, c.sinf_block-2.ensures.near_len.2, c.sinf_block-2.ensures.near_len.3);
       c_len_2 = (c.phases-next.ensures.x_len.1, c.levels.ensures.soft_len_2.0, c.levels.ensures.soft_len_2.1, c.levels.ensures.soft_len_2.2);
-      carried = epiano_carried (pitch_at c.args.pitch c.args.lane.now) c.args.gain c.args.srf c.args.decay c.args.from c.args.end c.args.start
-          c.phases-next.ensures.rows c.phases-next.ensures.tabled c.sinf_block.ensures.tabled bent.1 c.sinf_block-2.ensures.tabled c.levels.ensures.tabled c.levels.ensures.tabled_2 c.levels.ensures.tabled_3
+      carried = epiano_carried_part (pitch_at c.args.pitch c.args.lane.now) c.args.gain c.args.srf c.args.decay c.args.from c.args.end c.args.start
+          c.phases-next.ensures.rows c.phases-next.ensures.tabled c.sinf_block.ensures.tabled bent.1 c.sinf_block-2.ensures.tabled
+          c.levels.ensures.tabled c.levels.ensures.tabled_2 c.levels.ensures.tabled_3
           c.requires.from_le_end.0 c.requires.from_le_end.2 c.mix.ensures c.phases-next.ensures.value;
     }

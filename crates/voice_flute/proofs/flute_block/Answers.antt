@@ -3,7 +3,7 @@ use native.Mathlib.Omega.{arith}
 use Rattle.dsl.specs.Pitch.{pitch_at}
 use Rattle.dsl.proofs.Reach.{reaches_less}
 use Rattle.blocks.proofs.Block.{tabled_all}
-use Rattle.voice_flute.proofs.Flute.{flute_carried}
+use Rattle.voice_flute.proofs.Flute.{flute_carried_part}
 use borrow.Author.Rules.{rules}
 use Rattle.voice_flute.proofs.flute_block.Goals as goal
 
@@ -34,6 +34,6 @@ returns c =
     record {
       x_len_2 = (c.states-next.ensures.x_len.0, c.sinf_block.ensures.near_len.0, c.sinf_block.ensures.near_len.1, c.sinf_block.ensures.near_len.2, c.sinf_block.ensures.near_len.3);
       e_len_2 = (c.decays_before.ensures.0, c.states-next.ensures.x_len.1);
-      carried = flute_carried (pitch_at c.args.pitch c.args.lane.now) c.args.gain c.args.srf c.args.lp_a c.args.from c.args.end c.args.start
+      carried = flute_carried_part (pitch_at c.args.pitch c.args.lane.now) c.args.gain c.args.srf c.args.lp_a c.args.from c.args.end c.args.start
           c.states-next.ensures.tabled_2 c.states-next.ensures.tabled_3 c.sinf_block.ensures.tabled c.requires.from_le_end.0 c.requires.from_le_end.2 c.mix.ensures c.states-next.ensures.value;
     }

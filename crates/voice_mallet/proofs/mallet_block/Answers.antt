@@ -2,7 +2,7 @@
 use native.Mathlib.Omega.{arith}
 use Rattle.dsl.specs.Pitch.{pitch_at}
 use Rattle.dsl.proofs.Reach.{reaches_less}
-use Rattle.voice_mallet.proofs.Mallet.{mallet_carried}
+use Rattle.voice_mallet.proofs.Mallet.{mallet_carried_part}
 use borrow.Author.Rules.{rules}
 use Rattle.voice_mallet.proofs.mallet_block.Goals as goal
 
@@ -29,6 +29,6 @@ returns c =
     record {
       x_len_2 = (c.phases-next.ensures.x_len, c.sinf_block.ensures.near_len.0, c.sinf_block.ensures.near_len.1, c.sinf_block.ensures.near_len.2, c.sinf_block.ensures.near_len.3);
       e1_len_2 = (c.decays_before.ensures.0, c.decays_before-2.ensures.0);
-      carried = mallet_carried (pitch_at c.args.pitch c.args.lane.now) c.args.gain c.args.srf c.args.from c.args.end c.args.start c.phases-next.ensures.rows c.sinf_block.ensures.tabled
+      carried = mallet_carried_part (pitch_at c.args.pitch c.args.lane.now) c.args.gain c.args.srf c.args.from c.args.end c.args.start c.phases-next.ensures.rows c.sinf_block.ensures.tabled
           c.decays_before.ensures.1 c.decays_before-2.ensures.1 c.requires.from_le_end.0 c.requires.from_le_end.2 c.mix.ensures c.phases-next.ensures.value;
     }

@@ -3,7 +3,7 @@ use native.Mathlib.Omega.{arith}
 use Rattle.dsl.specs.Pitch.{pitch_at}
 use Rattle.dsl.proofs.Reach.{reaches_less}
 use Rattle.voice_organ.specs.Block.{organ_reached}
-use Rattle.voice_organ.proofs.Organ.{shared, organ_carried}
+use Rattle.voice_organ.proofs.Organ.{shared_of, organ_carried_part}
 use borrow.Author.Rules.{rules}
 use Rattle.voice_organ.proofs.organ_block.Goals as goal
 
@@ -23,7 +23,7 @@ sixths-requires c =
     let at = organ_reached (pitch_at c.args.pitch c.args.lane.now) c.args.srf c.args.from c.args.start in
     record {
       n_bound = omega (arith, c.requires.from_le_end);
-      nan_value = shared c.args.bars at c.phases-next.ensures.rows c.phases-next.ensures.tabled c.sinf_block.ensures.tabled;
+      nan_value = shared_of c.args.bars at c.phases-next.ensures.rows c.phases-next.ensures.tabled c.sinf_block.ensures.tabled;
       near_len = (c.sinf_block.ensures.near_len.0, c.sinf_block.ensures.near_len.1, c.sinf_block.ensures.near_len.2, c.requires.y_len.1);
     }
 
@@ -44,6 +44,7 @@ returns c =
     record {
       x_len_2 = (c.phases-next.ensures.x_len.0, c.sixths.ensures.near_len_2.0, c.sixths.ensures.near_len_2.1, c.sixths.ensures.near_len_2.2, c.sinf_block.ensures.near_len.3);
       y_len_2 = (c.phases-next.ensures.x_len.1, c.sixths.ensures.near_len_2.3, levels.0);
-      carried = organ_carried c.args.bars c.args.norm (pitch_at c.args.pitch c.args.lane.now) c.args.srf c.args.from c.args.end c.args.start c.phases-next.ensures.rows c.phases-next.ensures.tabled c.sinf_block.ensures.tabled
+      carried = organ_carried_part c.args.bars c.args.norm (pitch_at c.args.pitch c.args.lane.now) c.args.srf c.args.from c.args.end c.args.start
+          c.phases-next.ensures.rows c.phases-next.ensures.tabled c.sinf_block.ensures.tabled
           c.sixths.ensures.tabled levels.1 c.requires.from_le_end.0 c.requires.from_le_end.2 c.mix.ensures c.phases-next.ensures.value;
     }

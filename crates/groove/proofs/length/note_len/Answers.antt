@@ -20,11 +20,19 @@ int_to_float-n c = le→leb _ _ c.requires.most
 pub returns-then-frames-lt1 : goal.returns-then-frames-lt1
 unfolding length_of
 returns-then-frames-lt1 c =
-    let frames : let a = c.args in c.f32_to_usize-frames.result ≡ to_unsigned 64 (min_of (f32 a.len ⊗ a.step_dur) (f32 a.n)) = rw (c.f32_to_usize-frames.ensures, c.min_f32.ensures, c.nearest_u32_to_f32.ensures) in
+    let frames : let a = c.args in c.f32_to_usize-frames.result ≡ to_unsigned 64 (min_of (f32 a.len ⊗ a.step_dur) (f32 a.n)) = rw (
+      c.f32_to_usize-frames.ensures,
+      c.min_f32.ensures,
+      c.nearest_u32_to_f32.ensures,
+    ) in
     low _ c.if-frames-lt1.true ∙ ap (λ (k : ℕ). max k 1) frames
 
 pub returns-else-frames-lt1 : goal.returns-else-frames-lt1
 unfolding length_of
 returns-else-frames-lt1 c =
-    let frames : let a = c.args in c.f32_to_usize-frames.result ≡ to_unsigned 64 (min_of (f32 a.len ⊗ a.step_dur) (f32 a.n)) = rw (c.f32_to_usize-frames.ensures, c.min_f32.ensures, c.nearest_u32_to_f32.ensures) in
+    let frames : let a = c.args in c.f32_to_usize-frames.result ≡ to_unsigned 64 (min_of (f32 a.len ⊗ a.step_dur) (f32 a.n)) = rw (
+      c.f32_to_usize-frames.ensures,
+      c.min_f32.ensures,
+      c.nearest_u32_to_f32.ensures,
+    ) in
     high _ c.if-frames-lt1.false ∙ ap (λ (k : ℕ). max k 1) frames

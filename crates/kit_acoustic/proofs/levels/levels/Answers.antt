@@ -4,7 +4,7 @@ use borrow.Author.Rules.{rules}
 use Rattle.blocks.proofs.Block.{tabled_same}
 use Rattle.osc.specs.Phase.{seconds}
 use Rattle.kit_acoustic.specs.Block.{acoustic_block_level}
-use Rattle.kit_acoustic.proofs.ByLevel.{no_level, cowbell_level}
+use Rattle.kit_acoustic.proofs.ByLevel.{no_block_level, cowbell_level}
 use Rattle.kit_acoustic.proofs.levels.levels.Goals as goal
 
 pub returns-in-Clap : goal.returns-in-Clap
@@ -32,5 +32,10 @@ returns-in-Unmapped c = rw c.in-Unmapped.is c.decays_before-in-Unmapped.ensures
 pub returns-in_default : goal.returns-in_default
 returns-in_default c =
     let p = c.args in
-    let made = c.zeros_before.ensures in
-    (made.0, record { at = λ k h g. made.1.at k h g ∙ no_level p.drum (seconds p.srf k) c.in_default.not-Clap c.in_default.not-ClosedHat c.in_default.not-OpenHat c.in_default.not-Cowbell c.in_default.not-Unmapped })
+    let made = c.zeros_before.ensures in (
+      made.0,
+      record {
+        at = λ k h g. made.1.at k h g ∙
+            no_block_level p.drum (seconds p.srf k) c.in_default.not-Clap c.in_default.not-ClosedHat c.in_default.not-OpenHat c.in_default.not-Cowbell c.in_default.not-Unmapped;
+      },
+    )

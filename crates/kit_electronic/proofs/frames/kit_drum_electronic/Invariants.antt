@@ -16,7 +16,8 @@ use Rattle.kit_electronic.proofs.frames.kit_drum_electronic.Given as goal
 
 abbrev pub invariant-loop-i : goal.invariant-loop-i
 invariant-loop-i l =
-    (length l.a ≡ 64) × Filled (λ i. electronic_block_by l.drum (electronic_block_level l.drum (seconds l.srf i)) l.srf l.a5500 l.a9000 i) (λ r. r.sample) (λ r. r.state) l.initial.s l.initial.out l.i l.out l.s
+    (length l.a ≡ 64) × Filled (λ i. electronic_block_by l.drum (electronic_block_level l.drum (seconds l.srf i)) l.srf l.a5500 l.a9000 i)
+    (λ r. r.sample) (λ r. r.state) l.initial.s l.initial.out l.i l.out l.s
 
 abbrev pub decreases-loop-i : goal.decreases-loop-i
 decreases-loop-i l = length l.initial.out - l.i

@@ -4,7 +4,7 @@ use borrow.Author.Rules.{rules}
 use Rattle.blocks.proofs.Block.{tabled_same}
 use Rattle.osc.specs.Phase.{seconds}
 use Rattle.kit_electronic.specs.Block.{electronic_block_level}
-use Rattle.kit_electronic.proofs.ByLevel.{no_level, cowbell_level}
+use Rattle.kit_electronic.proofs.ByLevel.{no_block_level, cowbell_level}
 use Rattle.kit_electronic.proofs.levels.levels.Goals as goal
 
 pub returns-in-Clap : goal.returns-in-Clap
@@ -29,4 +29,4 @@ pub returns-in_default : goal.returns-in_default
 returns-in_default c =
     let p = c.args in
     let made = c.zeros_before.ensures in
-    (made.0, record { at = λ k h g. made.1.at k h g ∙ no_level p.drum (seconds p.srf k) c.in_default.not-Clap c.in_default.not-ClosedHat c.in_default.not-Cowbell c.in_default.not-Unmapped })
+    (made.0, record { at = λ k h g. made.1.at k h g ∙ no_block_level p.drum (seconds p.srf k) c.in_default.not-Clap c.in_default.not-ClosedHat c.in_default.not-Cowbell c.in_default.not-Unmapped })

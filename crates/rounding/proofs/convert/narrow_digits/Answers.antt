@@ -1,5 +1,6 @@
 -- `rounding::convert::narrow_digits` meets its contract: the digits at place 62 are rounded at a place that is known from the exponent. Assumes nothing.
-use Rattle.std.proofs.Common.{◌≡◌, ℕ, ◌+◌, ◌-◌, ◌*◌, ◌%◌, ◌^◌, ◌<◌, ◌≤◌, sym, ap, ◌∙◌, subst, le_refl, lt_of_lt_of_le, lt_irrefl, mod-eq_of_lt, zero-lt-suc, mul-lt-mul_of_pos_right, arith, lit<, lit≤, pow_mono, rules}
+use Rattle.std.proofs.Common.{◌≡◌, ℕ, ◌+◌, ◌-◌, ◌*◌, ◌%◌, ◌^◌, ◌<◌, ◌≤◌, sym, ap, ◌∙◌, subst, le_refl, lt_of_lt_of_le, lt_irrefl, mod-eq_of_lt, zero-lt-suc, mul-lt-mul_of_pos_right, arith}
+use Rattle.std.proofs.Common.{lit<, lit≤, pow_mono, rules}
 use lib.Count.{count_leading_zeros}
 use lib.Ieee.{binary32, units}
 use lib.Ieee.Nearest.{closest}

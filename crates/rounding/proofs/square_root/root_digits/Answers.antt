@@ -1,5 +1,6 @@
 -- `rounding::square_root::root_digits` meets its contract. Assumes nothing.
-use Rattle.std.proofs.Common.{◌≡◌, ℕ, ◌+◌, ◌-◌, ◌*◌, ◌/◌, ◌%◌, ◌^◌, ◌<◌, ◌≤◌, sym, ◌∙◌, subst, le_trans, lt_of_lt_of_le, le-add_right, le_of_lt, mod-lt, mod-eq_of_lt, zero-lt-suc, mul-le-mul, lt_of_not-le, not-le_of_lt, arith, lit≤, pow_pos, rules}
+use Rattle.std.proofs.Common.{◌≡◌, ℕ, ◌+◌, ◌-◌, ◌*◌, ◌/◌, ◌%◌, ◌^◌, ◌<◌, ◌≤◌, sym, ◌∙◌, subst, le_trans, lt_of_lt_of_le, le-add_right, le_of_lt, mod-lt, mod-eq_of_lt, zero-lt-suc}
+use Rattle.std.proofs.Common.{mul-le-mul, lt_of_not-le, not-le_of_lt, arith, lit≤, pow_pos, rules}
 use lib.Count.{count_leading_zeros}
 use Rattle.ieee.proofs.Roots.{IsRoot, root_le}
 use Rattle.rounding.proofs.Leading.{Placed, placed}
@@ -69,7 +70,11 @@ pub isqrt48-s-requires : goal.isqrt48-s-requires
 isqrt48-s-requires c = subst (λ (n : ℕ). n < 2 ^ 48) (sym (digits_are c.args.q c.args.k c.requires.0 c.requires.1)) (bounds c.args.q c.args.k c.requires.0 c.requires.1).1
 
 pub pack_f32-requires : goal.pack_f32-requires
-pack_f32-requires c = (expo_lt c.args.q c.args.k c.requires.2, omega (arith, few c.args.q c.args.k c.isqrt48-s.result c.requires.0 c.requires.1 c.isqrt48-s.ensures), λ l. le_trans (many c.args.q c.args.k c.isqrt48-s.result c.requires.0 c.requires.1 c.isqrt48-s.ensures) (le-add_right _ 1))
+pack_f32-requires c = (
+  expo_lt c.args.q c.args.k c.requires.2,
+  omega (arith, few c.args.q c.args.k c.isqrt48-s.result c.requires.0 c.requires.1 c.isqrt48-s.ensures),
+  λ l. le_trans (many c.args.q c.args.k c.isqrt48-s.result c.requires.0 c.requires.1 c.isqrt48-s.ensures) (le-add_right _ 1),
+)
 
 above : (a s m m' : ℕ) → m' ≡ m → s < m' - a → a + s < m
 above a s m m' e h = omega arith
@@ -89,7 +94,11 @@ returns-then-m-s c =
     b.0 b.1 (is a.q a.k s p.0 p.1 c.isqrt48-s.ensures) (above (s * s) s (digits a.q a.k) (digits a.q a.k % 2 ^ 64) (digits_are a.q a.k p.0 p.1) c.if-m-s.true))
 
 pub pack_f32-requires-2 : goal.pack_f32-requires-2
-pack_f32-requires-2 c = (expo_lt c.args.q c.args.k c.requires.2, le_of_lt (few c.args.q c.args.k c.isqrt48-s.result c.requires.0 c.requires.1 c.isqrt48-s.ensures), λ l. many c.args.q c.args.k c.isqrt48-s.result c.requires.0 c.requires.1 c.isqrt48-s.ensures)
+pack_f32-requires-2 c = (
+  expo_lt c.args.q c.args.k c.requires.2,
+  le_of_lt (few c.args.q c.args.k c.isqrt48-s.result c.requires.0 c.requires.1 c.isqrt48-s.ensures),
+  λ l. many c.args.q c.args.k c.isqrt48-s.result c.requires.0 c.requires.1 c.isqrt48-s.ensures,
+)
 
 pub returns : goal.returns
 returns c =

@@ -4,16 +4,15 @@ use mathlib.Core.Path.{◌≡◌, refl, sym, ap, ◌∙◌}
 use native.Mathlib.Omega.{arith}
 use lib.ListN.{length}
 use Rattle.mix.specs.Mix.{silence}
-use Rattle.score.specs.Score.{score_of, draws_before}
 use Rattle.score_note.specs.declared.Drawn.{Drawn}
-use Rattle.score_notes.proofs.Order.{Playing, playing_none, playing_more, playing_uncounted, playing_all, playing_frames}
+use Rattle.score_notes.proofs.Order.{playing_none, playing_more, playing_state, playing_frames}
 use Rattle.score_notes.proofs.played.play_notes.Goals as goal
 
 pub loop-k-init : goal.loop-k-init
 loop-k-init c =
     let v = c.clear in
     let n = v.auto.out ∙ c.requires.out_len in
-    (playing_uncounted (playing_none (omega (arith, c.well_formed.0)) (v.ensures ∙ ap silence c.requires.out_len) n c.requires.note_buf_len c.requires.string_len), refl)
+    (playing_none (omega (arith, c.well_formed.0)) (v.ensures ∙ ap silence c.requires.out_len) n c.requires.note_buf_len c.requires.string_len, refl)
 
 pub play_note-played-requires : goal.play_note-played-requires
 play_note-played-requires c =
@@ -33,7 +32,8 @@ pub loop-k-preserved : goal.loop-k-preserved
 loop-k-preserved c =
     let h = c.loop-k.invariant.0 in
     let v = c.play_note-played in
-    (playing_uncounted (playing_more h (omega arith) v.ensures.value v.ensures.out_after v.auto.out v.auto.note_buf v.auto.string v.ensures.note_buf_unchanged v.ensures.string_unchanged), refl)
+    let state = ap (λ (p : Drawn). p.rng.0) v.ensures.value in
+    (playing_more h (omega arith) state v.ensures.out_after v.auto.out v.auto.note_buf v.auto.string v.ensures.note_buf_unchanged v.ensures.string_unchanged, refl)
 
 pub shape_of-out : goal.shape_of-out
 shape_of-out c = c.loop-k.invariant.0.room ∙ sym c.requires.out_len
@@ -48,7 +48,7 @@ pub returns : goal.returns
 returns c =
     let h = c.loop-k.invariant.0 in
     record {
-      value = ap (λ (p : Drawn). p.rng.0) (playing_all h (omega arith));
+      value = playing_state h (omega arith);
       out_after = playing_frames h (omega arith);
       note_buf_unchanged = h.buffer_kept;
       string_unchanged = h.string_kept;

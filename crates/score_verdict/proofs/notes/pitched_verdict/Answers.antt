@@ -3,7 +3,7 @@ use mathlib.Core.Path.{sym, ◌∙◌}
 use borrow.Author.Tests.{not-true}
 use Rattle.score.specs.Score.{Score, score_of}
 use Rattle.score.proofs.Standing.{len_least}
-use Rattle.score_verdict.proofs.Verdicts.{values_refuse, values_number, reach_decides, number_decides}
+use Rattle.score_verdict.proofs.Verdicts.{values_refuse, values_number, reach_decides, uncurved_decides}
 use borrow.Author.Rules.{rules}
 use Rattle.score_verdict.proofs.notes.pitched_verdict.Goals as goal
 
@@ -16,7 +16,7 @@ pub returns-then-not-is_curve : goal.returns-then-not-is_curve
 returns-then-not-is_curve c =
     let score_in_start : Score = score_of c.args.seq c.args.notes.now c.args.lane.now c.args.lent in
     let fine = sym c.in_default.is ∙ c.values_verdict-found.ensures in
-    number_decides score_in_start c.args.note fine (sym c.is_curve.ensures ∙ not-true _ c.if-not-is_curve.true-raw)
+    uncurved_decides score_in_start c.args.note fine (sym c.is_curve.ensures ∙ not-true _ c.if-not-is_curve.true-raw)
 
 pub place_note-place-requires : goal.place_note-place-requires
 place_note-place-requires c =

@@ -15,7 +15,13 @@ returns-then-page-length c =
 pub put_sheet-end-requires : goal.put_sheet-end-requires
 put_sheet-end-requires c =
     let score_in_start : Score = call_of (seq_of c.args.score.numbers c.args.score.env c.args.score.sound) c.args.notes.now c.args.score.numbers.n in
-    rw c.seq-seq.ensures (record { draw_value = c.requires.draw_value; room = score_room score_in_start c.args.score.draw c.requires.draw_value (omega (arith, c.requires.notes_len_bound)) c.sheet_length-length.ensures c.if-page-length.false })
+    rw c.seq-seq.ensures (record {
+      draw_value = c.requires.draw_value;
+      room = score_room score_in_start c.args.score.draw c.requires.draw_value (omega (
+        arith,
+        c.requires.notes_len_bound,
+      )) c.sheet_length-length.ensures c.if-page-length.false;
+    })
 
 pub returns : goal.returns
 returns c =

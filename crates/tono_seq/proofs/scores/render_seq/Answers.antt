@@ -20,19 +20,34 @@ returns-in_default c = not_called _ (sym c.in_default.is ∙ c.parts_at.ensures)
 
 pub slice_bounds-held-end : goal.slice_bounds-held-end
 slice_bounds-held-end c =
-    let eights : (v : SeqVoice) (m : Adsr) → Both v m ≡ parts_with (voice_at c.args.wave c.args.style c.args.knobs.now c.args.bars.now) (env_at c.args.env.now) (whole_of (length c.args.seeds.now) (length c.args.counts.now) (length c.args.points.now)) → (length c.args.seeds.now ≡ 8) × (length c.args.counts.now ≡ 8) = λ v m is. call_eights (length c.args.seeds.now) (length c.args.counts.now) (length c.args.points.now) (voice_at c.args.wave c.args.style c.args.knobs.now c.args.bars.now) (env_at c.args.env.now) v m is in
+    let eights : (v : SeqVoice) (m : Adsr) →
+    Both v m ≡ parts_with (voice_at c.args.wave c.args.style c.args.knobs.now c.args.bars.now) (env_at c.args.env.now)
+    (whole_of (length c.args.seeds.now) (length c.args.counts.now) (length c.args.points.now)) →
+    (length c.args.seeds.now ≡ 8) × (length c.args.counts.now ≡ 8) =
+    λ v m is. call_eights (length c.args.seeds.now) (length c.args.counts.now) (length c.args.points.now)
+    (voice_at c.args.wave c.args.style c.args.knobs.now c.args.bars.now) (env_at c.args.env.now) v m is in
     let e = (eights _ _ (sym c.in-Both.is ∙ c.parts_at.ensures)).1 in
     omega (arith, e)
 
 pub slice_bounds-held-end-2 : goal.slice_bounds-held-end-2
 slice_bounds-held-end-2 c =
-    let eights : (v : SeqVoice) (m : Adsr) → Both v m ≡ parts_with (voice_at c.args.wave c.args.style c.args.knobs.now c.args.bars.now) (env_at c.args.env.now) (whole_of (length c.args.seeds.now) (length c.args.counts.now) (length c.args.points.now)) → (length c.args.seeds.now ≡ 8) × (length c.args.counts.now ≡ 8) = λ v m is. call_eights (length c.args.seeds.now) (length c.args.counts.now) (length c.args.points.now) (voice_at c.args.wave c.args.style c.args.knobs.now c.args.bars.now) (env_at c.args.env.now) v m is in
+    let eights : (v : SeqVoice) (m : Adsr) →
+    Both v m ≡ parts_with (voice_at c.args.wave c.args.style c.args.knobs.now c.args.bars.now) (env_at c.args.env.now)
+    (whole_of (length c.args.seeds.now) (length c.args.counts.now) (length c.args.points.now)) →
+    (length c.args.seeds.now ≡ 8) × (length c.args.counts.now ≡ 8) =
+    λ v m is. call_eights (length c.args.seeds.now) (length c.args.counts.now) (length c.args.points.now)
+    (voice_at c.args.wave c.args.style c.args.knobs.now c.args.bars.now) (env_at c.args.env.now) v m is in
     let e = (eights _ _ (sym c.in-Both.is ∙ c.parts_at.ensures)).1 in
     sym (length-take-le 8 c.args.counts.now (let le : 8 ≤ length c.args.counts.now = omega (arith, e) in le))
 
 pub session_of-session-requires : goal.session_of-session-requires
 session_of-session-requires c =
-    let eights : (v : SeqVoice) (m : Adsr) → Both v m ≡ parts_with (voice_at c.args.wave c.args.style c.args.knobs.now c.args.bars.now) (env_at c.args.env.now) (whole_of (length c.args.seeds.now) (length c.args.counts.now) (length c.args.points.now)) → (length c.args.seeds.now ≡ 8) × (length c.args.counts.now ≡ 8) = λ v m is. call_eights (length c.args.seeds.now) (length c.args.counts.now) (length c.args.points.now) (voice_at c.args.wave c.args.style c.args.knobs.now c.args.bars.now) (env_at c.args.env.now) v m is in
+    let eights : (v : SeqVoice) (m : Adsr) →
+    Both v m ≡ parts_with (voice_at c.args.wave c.args.style c.args.knobs.now c.args.bars.now) (env_at c.args.env.now)
+    (whole_of (length c.args.seeds.now) (length c.args.counts.now) (length c.args.points.now)) →
+    (length c.args.seeds.now ≡ 8) × (length c.args.counts.now ≡ 8) =
+    λ v m is. call_eights (length c.args.seeds.now) (length c.args.counts.now) (length c.args.points.now)
+    (voice_at c.args.wave c.args.style c.args.knobs.now c.args.bars.now) (env_at c.args.env.now) v m is in
     let (seeds, counts) = eights _ _ (sym c.in-Both.is ∙ c.parts_at.ensures) in
     record {
       seeds_len = seeds;
@@ -41,12 +56,22 @@ session_of-session-requires c =
 
 pub put_count-requires : goal.put_count-requires
 put_count-requires c =
-    let eights : (v : SeqVoice) (m : Adsr) → Both v m ≡ parts_with (voice_at c.args.wave c.args.style c.args.knobs.now c.args.bars.now) (env_at c.args.env.now) (whole_of (length c.args.seeds.now) (length c.args.counts.now) (length c.args.points.now)) → (length c.args.seeds.now ≡ 8) × (length c.args.counts.now ≡ 8) = λ v m is. call_eights (length c.args.seeds.now) (length c.args.counts.now) (length c.args.points.now) (voice_at c.args.wave c.args.style c.args.knobs.now c.args.bars.now) (env_at c.args.env.now) v m is in
+    let eights : (v : SeqVoice) (m : Adsr) →
+    Both v m ≡ parts_with (voice_at c.args.wave c.args.style c.args.knobs.now c.args.bars.now) (env_at c.args.env.now)
+    (whole_of (length c.args.seeds.now) (length c.args.counts.now) (length c.args.points.now)) →
+    (length c.args.seeds.now ≡ 8) × (length c.args.counts.now ≡ 8) =
+    λ v m is. call_eights (length c.args.seeds.now) (length c.args.counts.now) (length c.args.points.now)
+    (voice_at c.args.wave c.args.style c.args.knobs.now c.args.bars.now) (env_at c.args.env.now) v m is in
     (eights _ _ (sym c.in-Both.is ∙ c.parts_at.ensures)).1
 
 pub returns : goal.returns
 returns c =
-    let eights : (v : SeqVoice) (m : Adsr) → Both v m ≡ parts_with (voice_at c.args.wave c.args.style c.args.knobs.now c.args.bars.now) (env_at c.args.env.now) (whole_of (length c.args.seeds.now) (length c.args.counts.now) (length c.args.points.now)) → (length c.args.seeds.now ≡ 8) × (length c.args.counts.now ≡ 8) = λ v m is. call_eights (length c.args.seeds.now) (length c.args.counts.now) (length c.args.points.now) (voice_at c.args.wave c.args.style c.args.knobs.now c.args.bars.now) (env_at c.args.env.now) v m is in
+    let eights : (v : SeqVoice) (m : Adsr) →
+    Both v m ≡ parts_with (voice_at c.args.wave c.args.style c.args.knobs.now c.args.bars.now) (env_at c.args.env.now)
+    (whole_of (length c.args.seeds.now) (length c.args.counts.now) (length c.args.points.now)) →
+    (length c.args.seeds.now ≡ 8) × (length c.args.counts.now ≡ 8) =
+    λ v m is. call_eights (length c.args.seeds.now) (length c.args.counts.now) (length c.args.points.now)
+    (voice_at c.args.wave c.args.style c.args.knobs.now c.args.bars.now) (env_at c.args.env.now) v m is in
     let is = sym c.in-Both.is ∙ c.parts_at.ensures in
     let e = (eights _ _ is).1 in
     let held = take_all 8 c.args.counts.now (let le : length c.args.counts.now ≤ 8 = omega (arith, e) in le) in

@@ -9,8 +9,8 @@ returns c =
     rw (
       c.max_f32.ensures,
       c.clamp_f32-strike.ensures,
-      c.clamp_f32-base_decay.ensures,
-      c.clamp_f32-b_inharm.ensures,
+      c.clamp_f32-decay.ensures,
+      c.clamp_f32-stretch.ensures,
       c.max_f32-f0.ensures,
       c.max_f32-inharm.ensures,
     )

@@ -32,7 +32,7 @@ returns c =
     let partials = c.piano_partials-ps.ensures.1 in
     let frames =
     rw (
-      c.string_pair-string_det.ensures,
+      c.string_pair-det.ensures,
       c.loudness-norm.ensures,
       partials,
       c.hammer_blow.ensures,

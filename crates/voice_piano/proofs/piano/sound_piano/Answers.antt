@@ -33,8 +33,13 @@ loop-i-smaller c =
 pub loop-i-preserved : goal.loop-i-preserved
 loop-i-preserved c =
     let inv = c.loop-i.invariant.1 in
-    let l = c.loop-i-test.true in
-    (c.piano_at-r.ensures.x_len_2, filled_more_parts inv (omega (arith, filled_length inv)) (rw c.at.ensures at c.piano_at-r.ensures.sample_value) (rw c.at.ensures at c.piano_at-r.ensures.state_value))
+    let l = c.loop-i-test.true in (
+      c.piano_at-r.ensures.x_len_2,
+      filled_more_parts inv (omega (
+        arith,
+        filled_length inv,
+      )) (rw c.at.ensures at c.piano_at-r.ensures.sample_value) (rw c.at.ensures at c.piano_at-r.ensures.state_value),
+    )
 
 pub shape_of-out : goal.shape_of-out
 shape_of-out c = filled_length c.loop-i.invariant.1

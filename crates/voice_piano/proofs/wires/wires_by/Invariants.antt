@@ -8,7 +8,7 @@ use Rattle.voice_piano.proofs.Sines.{swept_seen}
 use Rattle.voice_piano.proofs.wires.wires_by.Given as goal
 
 abbrev pub invariant-loop-j : goal.invariant-loop-j
-invariant-loop-j l = Swept added (moved l.dt l.string_det) c0 l.initial.parts l.j l.parts l.sum × (l.j ≤ l.count)
+invariant-loop-j l = Swept added (moved l.dt l.det) c0 l.initial.parts l.j l.parts l.sum × (l.j ≤ l.count)
 
 abbrev pub decreases-loop-j : goal.decreases-loop-j
 decreases-loop-j l = l.count - l.j

@@ -10,7 +10,7 @@ returns c =
       c.resonance-back.ensures,
       c.resonance-top.ensures,
       c.resonance-air.ensures,
-      c.exp-body_r.ensures,
+      c.exp-radius.ensures,
       c.max_f32-damp.ensures,
       c.max_f32-bright.ensures,
     )

@@ -2,7 +2,7 @@
 use native.Mathlib.Omega.{arith}
 use Rattle.dsl.specs.Pitch.{pitch_at}
 use Rattle.dsl.proofs.Reach.{reaches_less}
-use Rattle.voice_waves.proofs.Modulation.{fm_carried}
+use Rattle.voice_waves.proofs.Modulation.{fm_carried_part}
 use borrow.Author.Rules.{rules}
 use Rattle.voice_waves.proofs.modulated.fm_block.Goals as goal
 
@@ -43,7 +43,7 @@ returns c =
     record {
       x_len_2 = (bent.0, c.phases-next.ensures.x_len.1, c.sinf_block-2.ensures.near_len.0, c.sinf_block-2.ensures.near_len.1, c.sinf_block-2.ensures.near_len.2, c.sinf_block-2.ensures.near_len.3);
       e_len_2 = level.0;
-      carried = fm_carried (pitch_at c.args.pitch c.args.lane.now) c.args.knobs c.args.gain c.args.srf c.args.from c.args.end c.args.start
+      carried = fm_carried_part (pitch_at c.args.pitch c.args.lane.now) c.args.knobs c.args.gain c.args.srf c.args.from c.args.end c.args.start
           c.phases-next.ensures.tabled c.phases-next.ensures.tabled_2 c.sinf_block.ensures.tabled (rw c.max_f32.ensures at level.1)
           bent.1 c.sinf_block-2.ensures.tabled c.requires.from_le_end.0 c.requires.from_le_end.2 c.copy.ensures c.phases-next.ensures.value;
     }

@@ -43,8 +43,12 @@ pub loop-i-preserved : goal.loop-i-preserved
 loop-i-preserved c =
     let p = c.args in
     let f = pitch_at p.pitch p.lane.now in
-    let d = pitch_at p.duty p.duties.now in
-    (c.widths.ensures.d_len.0, c.steps.ensures.f_len.1, c.widths.ensures.d_len.1, c.square_block-s.ensures.on _ _ _ (λ k h l s. rw (read_is f d p.srf c.steps.ensures.tabled c.widths.ensures.tabled k h l)) c.loop-i.invariant.3)
+    let d = pitch_at p.duty p.duties.now in (
+      c.widths.ensures.d_len.0,
+      c.steps.ensures.f_len.1,
+      c.widths.ensures.d_len.1,
+      c.square_block-s.ensures.on _ _ _ (λ k h l s. rw (read_is f d p.srf c.steps.ensures.tabled c.widths.ensures.tabled k h l)) c.loop-i.invariant.3,
+    )
 
 pub shape_of-out : goal.shape_of-out
 shape_of-out c = filled_length c.loop-i.invariant.3

@@ -10,7 +10,8 @@ use Rattle.voice_waves.proofs.pulse.square_block.Given as goal
 
 abbrev pub invariant-loop-i : goal.invariant-loop-i
 invariant-loop-i l =
-    (l.i ≤ l.end) × Carried (λ i. square_by (record { step = get_or l.dt (i - l.from) nan; width = get_or l.w (i - l.from) nan })) (λ o. o.sample) (λ o. o.state) l.from l.i l.initial.out l.start l.out l.s
+    (l.i ≤ l.end) × Carried (λ i. square_by (record { step = get_or l.dt (i - l.from) nan; width = get_or l.w (i - l.from) nan }))
+    (λ o. o.sample) (λ o. o.state) l.from l.i l.initial.out l.start l.out l.s
 
 abbrev pub decreases-loop-i : goal.decreases-loop-i
 decreases-loop-i l = l.end - l.i

@@ -14,19 +14,22 @@ use Rattle.dsl.proofs.pitch.Reading.each_at.Goals as goal
 pub overflow_add-result : goal.overflow_add-result
 overflow_add-result c =
     let place_is : c.args.i / c.args.self.hop ≡ c.args.i = ap (λ (h : _). c.args.i / h) c.requires.hop_value ∙ div-one c.args.i in
-    let within : (offset : _) → c.args.self.pitch ≡ Curve offset → offset + c.args.i < length c.args.lane.now = λ offset is. rw (place_is) at (reached_within c.args.self offset _ _ is c.requires.reaches) in
+    let within : (offset : _) → c.args.self.pitch ≡ Curve offset → offset + c.args.i < length c.args.lane.now =
+    λ offset is. rw (place_is) at (reached_within c.args.self offset _ _ is c.requires.reaches) in
     let place = within _ c.in-Curve.is in omega (arith, place)
 
 pub offset_bounds-lane-offset : goal.offset_bounds-lane-offset
 offset_bounds-lane-offset c =
     let place_is : c.args.i / c.args.self.hop ≡ c.args.i = ap (λ (h : _). c.args.i / h) c.requires.hop_value ∙ div-one c.args.i in
-    let within : (offset : _) → c.args.self.pitch ≡ Curve offset → offset + c.args.i < length c.args.lane.now = λ offset is. rw (place_is) at (reached_within c.args.self offset _ _ is c.requires.reaches) in
+    let within : (offset : _) → c.args.self.pitch ≡ Curve offset → offset + c.args.i < length c.args.lane.now =
+    λ offset is. rw (place_is) at (reached_within c.args.self offset _ _ is c.requires.reaches) in
     let place = within _ c.in-Curve.is in search rules
 
 pub bounds-lane-offset : goal.bounds-lane-offset
 bounds-lane-offset c =
     let place_is : c.args.i / c.args.self.hop ≡ c.args.i = ap (λ (h : _). c.args.i / h) c.requires.hop_value ∙ div-one c.args.i in
-    let within : (offset : _) → c.args.self.pitch ≡ Curve offset → offset + c.args.i < length c.args.lane.now = λ offset is. rw (place_is) at (reached_within c.args.self offset _ _ is c.requires.reaches) in
+    let within : (offset : _) → c.args.self.pitch ≡ Curve offset → offset + c.args.i < length c.args.lane.now =
+    λ offset is. rw (place_is) at (reached_within c.args.self offset _ _ is c.requires.reaches) in
     within _ c.in-Curve.is
 
 pub returns-in-Const : goal.returns-in-Const

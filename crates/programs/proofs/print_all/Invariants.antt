@@ -1,0 +1,11 @@
+-- `print_all` ends, since each turn leaves less to write; what was written are the first bytes.
+use Rattle.std.proofs.Common.{◌≡◌, ◌-◌, ◌≤◌, ◌<◌, length, take}
+use Rattle.std.specs.Io.KnownBytes.{Appends}
+use Rattle.programs.proofs.print_all.Given as goal
+
+abbrev pub invariant-loop-done : goal.invariant-loop-done
+invariant-loop-done g l =
+    (l.done ≤ length l.bytes) × Appends (g.W.Write.contents l.initial.file) (g.W.Write.contents l.file) (take l.done l.bytes)
+
+abbrev pub decreases-loop-done : goal.decreases-loop-done
+decreases-loop-done g l = length l.bytes - l.done
