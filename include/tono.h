@@ -115,7 +115,7 @@ static inline const char *tono_reason(int number)
 
 /* This thread's floating-point mode is another one than the library's bits need. Inline calls alone give this,
  * before they look at anything else, and nothing changes. */
-#define TONO_FP_MODE UINT32_C(4294967294)
+#define TONO_FP_MODE UINT32_C(4294967293)
 
 /* What an answer means, in one line; NULL for a number that is none. */
 static inline const char *tono_answer(uint32_t number)

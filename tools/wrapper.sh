@@ -234,6 +234,7 @@ run_rt() {
         crate=$(sed -n 's/^rt: the library \([A-Za-z0-9_]*\) did not build.*/\1/p' "$log" | head -n 1)
         if [ -z "$crate" ] && grep -q '^logic=not-proved' "$log"; then crate=$package; fi
         if [ -n "$crate" ]; then die "the crate $crate is not proved; $log says why"; fi
+        if [ "$verb" = lib ]; then die "rt could not build libtono.a; $log says why"; fi
         die "rt ended with status $status; $log says why"
     fi
 }
@@ -281,23 +282,28 @@ of_archive() {
     verb=lib
 }
 
-# Ends where there is no rt to build with.
-need_rt() {
+# Ends where there is no rt.
+need_kit() {
     if command -v rt >/dev/null; then return; fi
-    if [ -f "$made" ] && [ -f "$record" ]; then
-        die "the sources changed since ${made#"$root/"} was built, and there is no command rt on the path to prove them again; docs/install.md has programs that need none"
-    fi
     die "Rattle's kit is not installed: there is no command rt on the path; README.md says what you need"
 }
 
-# Makes sure that the program is that of the present sources. One that is needs no rt.
+# Ends where there is no rt, and what is built is not ready.
+need_rt() {
+    if ! command -v rt >/dev/null && [ -f "$made" ] && [ -f "$record" ]; then
+        die "the sources changed since ${made#"$root/"} was built, and there is no command rt on the path to prove them again; docs/install.md has programs that need none"
+    fi
+    need_kit
+}
+
+# Makes sure that the program is that of the present sources.
 build() {
     if [ -f "$root/version" ]; then
         if [ ! -x "$program" ]; then die "$program is missing; install tono again"; fi
         return
     fi
+    need_kit
     if is_ready; then return; fi
-    need_rt
     lock
     while ! is_ready; do prove; done
 }
@@ -305,8 +311,10 @@ build() {
 # Opens descriptor 4 for the answer: standard output, or with -o a file beside the one that is named, which takes its
 # place when it is whole. A device or a pipe is written to as it is.
 stage() {
+    local ending=''
     if [ -z "$to" ]; then
-        { exec 4>&1; } 2>/dev/null || die "standard output is closed; write to a file, as $shown FILE -o OUT"
+        case $name in *wave) ending=.wav ;; esac
+        { exec 4>&1; } 2>/dev/null || die "standard output is closed; write to a file, as $shown FILE > OUT$ending"
         return
     fi
     goal=$(readlink -f -- "$to") || die "$to cannot be written: there is no such folder; make it first"
@@ -367,7 +375,7 @@ explain() {
     if [ -z "$reason" ]; then
         reason=$(awk -F '\t' -v number="$number" '$1 == number { print $4 "; " $5 }' "$root/tools/refusals.tsv" 2>/dev/null || true)
     fi
-    say "$from is refused with $number: ${reason:-docs/refusals.md says why}"
+    say "$from is refused with $number: ${reason:-README.md says why, under \"When a score is refused\"}"
 }
 
 # The input that the arguments name, and where the answer goes.

@@ -383,9 +383,9 @@ static void answers(void)
         int same = answer == NULL || reason == NULL ? answer == reason : strcmp(answer, reason) == 0;
         expect(same, "an answer", "it is not the refusal's reason");
     }
-    expect(tono_answer(0) != NULL && tono_answer(TONO_MALFORMED) != NULL && tono_answer(TONO_FP_MODE) != NULL
-               && tono_answer(TONO_FP_MODE - 1) == NULL,
+    expect(tono_answer(0) != NULL && tono_answer(TONO_MALFORMED) != NULL && tono_answer(TONO_MALFORMED - 1) == NULL,
            "an answer", "it has no meaning");
+    expect(tono_answer(TONO_FP_MODE) != NULL && tono_answer(TONO_FP_MODE - 1) == NULL, "the mode", "it has no meaning");
 }
 
 int main(int count, char **words)

@@ -31,9 +31,8 @@ Buffers. Frames, pitch curves and note words may be any object with the buffer p
 memoryview, a ctypes array, a numpy array. Nothing is copied. Frames and curves have items of 32-bit floats
 (array "f", numpy.float32), note words of unsigned 32-bit integers (array "I", numpy.uint32). Another item
 type is a TypeError. A buffer that is written to and is read-only, that has gaps or several dimensions, or
-overlaps another, is a ValueError. What is only read may also be a list or a tuple of numbers, which is
-copied, or have items of 64-bit floats, which are narrowed, each once; a NarrowedWarning says so where one
-changes. During a call no other thread may write to its buffers.
+overlaps another, is a ValueError. A lane, a pitch or a duty may also be a list or a
+tuple of numbers, which is copied. During a call no other thread may write to its buffers.
 
 Refusals. A call that the library refuses raises Refused, with its number, reason, place and cure, and
 changes nothing: no buffer, no seed, no count. An argument that the library has no place for, as a wave that
@@ -54,7 +53,7 @@ from typing import Any
 
 from .calls import NoteSignal as NoteSignal, note as note, plan as plan, render as render
 from .citations import Replayed as Replayed, cite as cite, replay as replay
-from .errors import LibraryError as LibraryError, NarrowedWarning as NarrowedWarning, Refused as Refused
+from .errors import LibraryError as LibraryError, Refused as Refused
 from .inputs import Score as Score
 from .library import fp_ok as fp_ok, library_path as library_path
 from .names import (BARS as BARS, CUE_SHEET_MOST as CUE_SHEET_MOST, CURES as CURES, CURVE as CURVE,
@@ -70,6 +69,12 @@ from .values import (Envelope as Envelope, Note as Note, Notes as Notes, Seq as 
 from .wavefiles import (read_wave as read_wave, wave_bytes as wave_bytes, wave_samples as wave_samples,
                         write_wave as write_wave)
 
+__all__ = [
+    "Envelope", "LibraryError", "Note", "NoteSignal", "Refused", "Rendered", "Replayed", "Score", "Seq",
+    "Session", "TempoPoint", "NUMBER", "CURVE", "QUARTER_TONE", "BARS", "CURES", "KNOBS", "REASONS", "STATIONS", "STYLES",
+    "VERSION", "WAVES", "cite", "cue_sheet", "note", "pack_notes", "plan", "plan_text", "play_text",
+    "read_wave", "render", "replay", "selftest", "wave_bytes", "wave_samples", "write_wave",
+]
 __version__ = VERSION
 # What is imported at its first use.
 _LATER = {"read_stimulus": "stimuli", "Stimulus": "stimuli"}

@@ -6,11 +6,12 @@ import hashlib
 import re
 from typing import Any, Dict, NamedTuple, Optional, Tuple
 
+from .errors import Refused
 from .inputs import Score
 from .lending import bytes_of
-from .names import KNOBS, STYLES, VERSION, WAVES, Buffer, knobs_of
+from .names import KNOBS, STATIONS, STYLES, VERSION, WAVES, Buffer, knobs_of
 from .session import Session
-from .singles import decimal_of
+from .singles import decimal_of, whole
 from .textscores import read_text
 from .texts import play_text
 from .values import Seq
@@ -37,7 +38,9 @@ def play_input(data: Buffer, seed: Optional[int], draw: Optional[int], station: 
     """Plays a text score on its own seed and draw, or an input on those that are given."""
     given = bytes(bytes_of("data", data))
     if is_input(given):
-        score, place = Score.from_bytes(given), station or 0
+        score, place = Score.from_bytes(given), whole("station", station or 0)
+        if place >= STATIONS:
+            raise Refused(33, f"station {place}")
         if seed is None or draw is None:
             raise ValueError("an input says neither seed nor draw: give both as its citation has them (--seed 0000000000005eed "
                              "--draw 0, or seed=0x5eed, draw=0)")

@@ -123,7 +123,8 @@ def _run(words: argparse.Namespace, top: argparse.ArgumentParser) -> int:
 
 def main(arguments: Optional[Sequence[str]] = None) -> int:
     """The command. What is wrong is one line on standard error."""
-    given = _as_command(sys.argv[1:] if arguments is None else arguments)
+    asked = list(sys.argv[1:] if arguments is None else arguments)
+    given = _as_command(asked)
     top = parser(given[:1] == ["corpus"])
     if given and given[0] not in COMMANDS and not given[0].startswith("-"):
         from .singles import nearest
@@ -142,12 +143,14 @@ def main(arguments: Optional[Sequence[str]] = None) -> int:
         print(f"tono: {refused}", file=sys.stderr)
         return 1
     except (OSError, ValueError, RuntimeError) as error:
-        return _told(error)
+        return _told(error, given != asked)
 
 
-def _told(error: Exception) -> int:
-    """Prints what is wrong in one line; the status says whether the file or the machine is meant."""
+def _told(error: Exception, is_brief: bool) -> int:
+    """Prints what is wrong in one line, in the brief forms a refusal without place and cure; the status says whether the file
+    or the machine is meant."""
     from .command_play import RefusedFile
     from .stimulus_fields import StimulusError
-    print(f"tono: {' '.join(str(error).split(chr(10)))}", file=sys.stderr)
+    said = error.brief if is_brief and isinstance(error, RefusedFile) else str(error)
+    print(f"tono: {' '.join(said.split(chr(10)))}", file=sys.stderr)
     return 1 if isinstance(error, (RefusedFile, StimulusError)) else 2

@@ -21,15 +21,19 @@ from .wavefiles import canonical, wave_bytes
 
 
 class RefusedFile(ValueError):
-    """A file that is refused, by its name."""
+    """A file that is refused, by its name; `brief` is without place and cure."""
+
+    def __init__(self, path: str, refused: Refused) -> None:
+        super().__init__(f"{path} is {refused}")
+        self.brief = f"{path} is refused with {refused.number}: {refused.reason}"
 
 
 def told(given: Given, error: Exception) -> Exception:
     """What a call raised, with the file's name."""
     if isinstance(error, Refused):
-        return RefusedFile(f"{given.path} is {error}")
+        return RefusedFile(given.path, error)
     if isinstance(error, RefusedVoice):
-        return RefusedFile(f"{given.path} is {error.refused}")
+        return RefusedFile(given.path, error.refused)
     return error
 
 

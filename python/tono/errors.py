@@ -33,10 +33,6 @@ class LibraryError(OSError):
     """libtono.so is missing, cannot be loaded, or is of another version than this package."""
 
 
-class NarrowedWarning(UserWarning):
-    """64-bit floats were taken where the library reads 32-bit ones, and some changed when they were narrowed."""
-
-
 def malformed() -> ValueError:
     """What is raised where the library answers that there is no such call."""
     return ValueError("the call is malformed")

@@ -3,10 +3,8 @@ from __future__ import annotations
 
 import array
 import ctypes
-import warnings
 from typing import FrozenSet, Sequence, Tuple
 
-from .errors import NarrowedWarning
 from .names import Buffer, Values
 from .singles import single
 
@@ -24,7 +22,6 @@ NOWHERE_AT = ctypes.addressof(_NOWHERE)
 # The formats of items, as memoryview names them, and what they are in words. `L` has 32 bits in the standard sizes.
 FLOATS = (frozenset(["f", "@f", "=f", "<f"]), "32-bit floats, as array('f') or numpy.float32")
 WORDS = (frozenset(["I", "@I", "=I", "<I", "=L", "<L"]), "unsigned 32-bit integers, as array('I') or numpy.uint32")
-_DOUBLES = frozenset(["d", "@d", "=d", "<d"])
 BITS = (FLOATS[0] | WORDS[0], "32-bit floats or unsigned 32-bit integers, as array('f') or numpy.float32")
 
 
@@ -72,29 +69,10 @@ def _fault(view: memoryview) -> str:
     return "is read-only, and the call writes to it"
 
 
-def _narrowed(name: str, given: memoryview) -> "array.array[float]":
-    """32-bit floats of 64-bit ones, each rounded once; a warning says so if some are not the same."""
-    wide = array.array("d", given.tobytes())
-    made = array.array("f", wide)
-    if any(a != b and b == b for a, b in zip(made, wide)):
-        warnings.warn(f"{name}: 64-bit floats were narrowed to the nearest 32-bit ones; lend 32-bit ones, as by "
-                      f"{name}.astype('float32') of numpy, and nothing is said", NarrowedWarning, stacklevel=5)
-    return made
-
-
 def read_values(name: str, given: Values, items: Tuple[FrozenSet[str], str] = FLOATS) -> "Lent":
-    """A lane, a pitch, a duty or samples: a buffer of 32-bit floats, or numbers that are copied into one. 64-bit floats are
-    narrowed, each once."""
+    """A lane, a pitch or a duty: a buffer of 32-bit floats, or a list of numbers that are copied into one."""
     if isinstance(given, (list, tuple)):
         given = array.array("f", [single(f"{name}[{i}]", x) for i, x in enumerate(given)])
-    else:
-        lent: Buffer = given
-        try:
-            view = memoryview(lent)
-        except TypeError:
-            return Lent(name, given, items)
-        if view.format in _DOUBLES and view.ndim == 1:
-            given = _narrowed(name, view)
     return Lent(name, given, items)
 
 

@@ -10,21 +10,21 @@ import struct
 from typing import BinaryIO, Optional, Sequence, Tuple, Union
 
 from .errors import Refused
-from .lending import BITS, Lent, address_of, bytes_of, bytes_to_write, judge_bytes_apart, read_values, zeros
+from .lending import BITS, Lent, address_of, bytes_of, bytes_to_write, judge_bytes_apart, zeros
 from .library import answered, library_calls
-from .names import FRAMES_MOST, WAVE_HEADER, Buffer, Values
+from .names import FRAMES_MOST, WAVE_HEADER, Buffer
 from .singles import whole
 
 
-def wave_bytes(rate: int, samples: Values, *, file: Optional[Buffer] = None) -> Union[bytearray, memoryview]:
+def wave_bytes(rate: int, samples: Buffer, *, file: Optional[Buffer] = None) -> Union[bytearray, memoryview]:
     """The WAVE file of these samples: mono, 32-bit floats, each with its own bits.
 
     rate: samples a second, 8,000 to 192,000 (1)
-    samples: a buffer of 32-bit floats, or of their bits, or a list of numbers, up to 16,777,216 (2)
+    samples: a buffer of 32-bit floats, or of their bits, up to 16,777,216 (2)
     file: bytes to write the file to, at least 58 and 4 for each sample (23); without it they are made
     """
     library, rate = library_calls(), whole("rate", rate)
-    lent = read_values("samples", samples, BITS)
+    lent = Lent("samples", samples, BITS)
     made = bytearray(WAVE_HEADER + 4 * min(lent.count, FRAMES_MOST)) if file is None else file
     room = bytes_to_write("file", made)
     judge_bytes_apart(room, lent.view.cast("B"))
@@ -35,7 +35,7 @@ def wave_bytes(rate: int, samples: Values, *, file: Optional[Buffer] = None) -> 
     return made if isinstance(made, bytearray) and file is None else room[:length]
 
 
-def write_wave(path: Union[str, "os.PathLike[str]", BinaryIO], rate: int, samples: Values) -> int:
+def write_wave(path: Union[str, "os.PathLike[str]", BinaryIO], rate: int, samples: Buffer) -> int:
     """Writes the WAVE file of these samples (`wave_bytes`) to a path or an open binary file, and returns its
     length in bytes. A refused call opens nothing."""
     made = wave_bytes(rate, samples)
