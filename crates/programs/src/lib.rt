@@ -50,8 +50,8 @@ pub fn read_full<R: Read>(input: &mut R, buffer: &mut [u8]) -> io::Result<usize>
     Ok(done)
 }
 
-// `read_full` of standard input, say, whose count goes nowhere else: that the bytes of standard input are known is in no
-// contract.
+// `read_full`, whose count is an `Input`. The clauses on bytes speak of a reader whose bytes are known; no contract of the
+// library says which bytes standard input holds.
 pub fn read_input<R: Read>(input: &mut R, buffer: &mut [u8]) -> io::Result<Input>
     ensures count { IfOk result (λ read. IsPrefixLen read.0 buffer.new) }
     ensures bytes { IfOk result (λ read. Consumes (R.remaining input.old) (R.remaining input.new) (take read.0 buffer.new)) }

@@ -1,4 +1,4 @@
--- A line of points, of which each is a space, with digits from its second place on is a space and the digits. Assumes nothing.
+-- Digits put into spaces from the second place on are a space and the digits. Assumes nothing.
 use Rattle.std.proofs.Common.{◌≡◌, ℕ, List, replicate, refl, ◌∙◌}
 use lib.Dec.{lit≤}
 use Rattle.text_listing.specs.Digits.{last_digits, hex_text}

@@ -1,5 +1,5 @@
 // Texts, and numbers each after a space, on what a program writes to.
-ghost use Rattle.std.specs.Prelude.{◌≡◌, ◌<◌, OnOk, OnErr};
+ghost use Rattle.std.specs.Prelude.{OnOk, OnErr};
 ghost use Rattle.std.specs.Io.KnownBytes.{Appends};
 ghost use Rattle.programs.specs.Streams.{AppendsPart, Grows};
 ghost use Rattle.vectors.specs.Numbers.{spaced};
@@ -8,7 +8,7 @@ use crate::patterns::{f32_bits, f64_bits, i64_bits};
 use programs::print_all;
 use std::io;
 use std::io::Write;
-use text_listing::{put_byte, put_hex_8, put_hex_16};
+use text_listing::{put_hex_8, put_hex_16};
 
 pub fn print_text<W: Write>(writer: &mut W, text: &[u8]) -> io::Result<()>
     ensures all { OnOk result (Appends (W.contents writer.old) (W.contents writer.new) text.now) }
