@@ -11,22 +11,12 @@ pub struct Beat {
     pub den: u32,
 }
 
-fn unsigned_abs(num: i64) -> u64
-    requires { unsigned_abs num ≤ 1000000000 }
-    ensures { result ≡ unsigned_abs num }
-{
-    if num >= 0 {
-        return num as u64;
-    }
-    (0 - num) as u64
-}
-
 fn divided(num: i64, den: u32) -> Beat
     requires num_bound { unsigned_abs num ≤ 1000000000 }
     requires den_nonzero { 0 < den }
     ensures { Reduced num den result }
 {
-    let g = gcd(unsigned_abs(num), den as u64);
+    let g = gcd(num.unsigned_abs(), den as u64);
     let top = num / (g as i64);
     let bottom = (den as u64) / g;
     Beat {

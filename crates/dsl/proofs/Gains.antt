@@ -5,8 +5,7 @@ use mathlib.Core.Bool.{Bool, true, false, cond}
 use lib.Dec.{eqb}
 use lib.Ieee.{Float, binary32, of_bits}
 use Rattle.quarter_tone.specs.Lookup.{tone_of}
-use Rattle.quarter_tone.specs.declared.QuarterTone.{QuarterTone}
-use Rattle.quarter_tone.specs.declared.QuarterTone.TheVariants.{Tone, Nothing}
+use Rattle.std.specs.Prelude.{None, Option, Some}
 use Rattle.dsl.specs.Note.{note_with, tuned_of, note_of}
 use Rattle.dsl.specs.declared.pitch.Pitch.{Pitch}
 use Rattle.dsl.specs.declared.pitch.Pitch.TheVariants.{Const, Curve}
@@ -30,9 +29,9 @@ pub word_free : {A : Type 0} (read : Decoded → A) → Free read → (step len 
 unfolding note_of
 word_free {A} read free step len kind p g g' = by (eqb kind 0) (eqb kind 1) (eqb kind 2)
   where
-    tuned : (t : QuarterTone) → read (tuned_of step len t g) ≡ read (tuned_of step len t g')
-    tuned (Tone x) = free.notes step len (Const x) _ _
-    tuned Nothing = free.others step len _ _
+    tuned : (t : (Option Float)) → read (tuned_of step len t g) ≡ read (tuned_of step len t g')
+    tuned (Some x) = free.notes step len (Const x) _ _
+    tuned None = free.others step len _ _
 
     by : (a b c : Bool) → read (cond a (note_with step len (Const (of_bits binary32 p)) g) (cond b (note_with step len (Curve p) g) (cond c (tuned_of step len (tone_of p) g) NoKind)))
         ≡ read (cond a (note_with step len (Const (of_bits binary32 p)) g') (cond b (note_with step len (Curve p) g') (cond c (tuned_of step len (tone_of p) g') NoKind)))

@@ -1,10 +1,8 @@
 -- "A note is five u32 words: step, len, kind (0 number, 1 curve), f32 bits or offset, gain bits." "Kind 2 of a note means q, looked up in a fixed table of 256 frequencies".
-use Rattle.std.specs.Prelude.{ℕ, cond, eqb}
+use Rattle.std.specs.Prelude.{ℕ, cond, eqb, Float, None, Option, Some}
 use Rattle.std.specs.Float.{binary32}
 use Rattle.std.specs.Float.Ieee.{of_bits}
 use Rattle.quarter_tone.specs.Lookup.{tone_of}
-use Rattle.quarter_tone.specs.declared.QuarterTone.{QuarterTone}
-use Rattle.quarter_tone.specs.declared.QuarterTone.TheVariants.{Tone, Nothing}
 use Rattle.dsl.specs.declared.pitch.Pitch.{Pitch}
 use Rattle.dsl.specs.declared.pitch.Pitch.TheVariants.{Const, Curve}
 use Rattle.dsl.specs.declared.note.SeqNote.{SeqNote}
@@ -16,9 +14,9 @@ abbrev pub note_with : ℕ → ℕ → Pitch → ℕ → Decoded
 note_with step len pitch gain = Note (record { step = step; len = len; pitch = pitch; gain = of_bits binary32 gain })
 
 -- a looked-up quarter tone is the number that was found, so that nothing but this sees q
-abbrev pub tuned_of : ℕ → ℕ → QuarterTone → ℕ → Decoded
-tuned_of step len (Tone x) gain = note_with step len (Const x) gain
-tuned_of step len Nothing gain = NoTone (record { step = step; len = len; gain = of_bits binary32 gain })
+abbrev pub tuned_of : ℕ → ℕ → Option Float → ℕ → Decoded
+tuned_of step len (Some x) gain = note_with step len (Const x) gain
+tuned_of step len None gain = NoTone (record { step = step; len = len; gain = of_bits binary32 gain })
 
 unfoldable pub note_of : ℕ → ℕ → ℕ → ℕ → ℕ → Decoded
 note_of step len kind pitch gain =

@@ -11,23 +11,17 @@ pub enum KitStyle {
     Eight08,
 }
 
-#[derive(Clone, Copy)]
-pub enum StyleAt {
-    Style(KitStyle),
-    NoStyle,
-}
-
 impl KitStyle {
     // The style at a place of the source's order, counted from 0.
-    pub fn at(place: u32) -> StyleAt
+    pub fn at(place: u32) -> Option<KitStyle>
         ensures { result ≡ style_at place }
     {
         match place {
-            0 => StyleAt::Style(KitStyle::Classic),
-            1 => StyleAt::Style(KitStyle::Acoustic),
-            2 => StyleAt::Style(KitStyle::Electronic),
-            3 => StyleAt::Style(KitStyle::Eight08),
-            _ => StyleAt::NoStyle,
+            0 => Some(KitStyle::Classic),
+            1 => Some(KitStyle::Acoustic),
+            2 => Some(KitStyle::Electronic),
+            3 => Some(KitStyle::Eight08),
+            _ => None,
         }
     }
 }

@@ -8,11 +8,11 @@ mod pitch; // pitch.rt: a number in hertz or a curve, and its reading
 mod sized; // sized.rt: numbers of the domain
 mod wave; // wave.rt: the waves and their places
 
-pub use kit::{KitStyle, StyleAt};
+pub use kit::KitStyle;
 pub use knobs::{
     Adsr, BassKnobs, Drawbars, FmKnobs, PianoKnobs, PluckKnobs, SeqVoice, env_sized, knobs_sized,
 };
 pub use note::{Decoded, SeqNote, Untuned};
 pub use pitch::{Pitch, Reading};
 pub use sized::{all_sized, is_sized};
-pub use wave::{SeqWave, WaveAt};
+pub use wave::SeqWave;

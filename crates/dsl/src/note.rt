@@ -4,7 +4,6 @@ ghost use Rattle.quarter_tone.specs.Lookup.{tone_of};
 ghost use Rattle.dsl.specs.Note.{note_of, tuned_of};
 
 use crate::pitch::Pitch;
-use quarter_tone::QuarterTone;
 
 #[derive(Clone, Copy)]
 pub struct SeqNote {
@@ -36,13 +35,13 @@ fn tuned(step: u32, len: u32, q: u32, gain: u32) -> Decoded
 {
     let gain = rounding::f32_from_bits(gain);
     match quarter_tone::quarter_tone(q) {
-        QuarterTone::Tone(hertz) => Decoded::Note(SeqNote {
+        Some(hertz) => Decoded::Note(SeqNote {
             step,
             len,
             pitch: Pitch::Const(hertz),
             gain,
         }),
-        QuarterTone::Nothing => Decoded::NoTone(Untuned { step, len, gain }),
+        None => Decoded::NoTone(Untuned { step, len, gain }),
     }
 }
 

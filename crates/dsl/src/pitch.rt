@@ -110,11 +110,9 @@ impl Reading {
         requires reaches { reaches self (length lane.now) end }
         ensures { (length f.new ≡ 64) × Tabled (pitch_at self lane.now) nan from end f.new }
     {
-        let mut i = from;
-        while i < end {
+        for i in from..end {
             let x = self.each_at(lane, i);
             f[i - from] = x;
-            i += 1;
         }
     }
 
@@ -124,11 +122,9 @@ impl Reading {
         requires reaches { reaches self (length lane.now) end }
         ensures { (length f.new ≡ 64) × Tabled (pitch_at self lane.now) nan from end f.new }
     {
-        let mut i = from;
-        while i < end {
+        for i in from..end {
             let x = self.at(lane, i);
             f[i - from] = x;
-            i += 1;
         }
     }
 

@@ -17,10 +17,8 @@ pub fn all_sized(xs: &[f32]) -> bool
     ensures { result ≡ all_sized xs.now }
 {
     let mut all = true;
-    let mut i = 0usize;
-    while i < xs.len() {
-        all = all & is_sized(xs[i]);
-        i += 1;
+    for x in xs {
+        all = all & is_sized(*x);
     }
     all
 }

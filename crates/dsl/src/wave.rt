@@ -25,37 +25,31 @@ pub enum SeqWave {
     Cowbell,
 }
 
-#[derive(Clone, Copy)]
-pub enum WaveAt {
-    Wave(SeqWave),
-    Nothing,
-}
-
 impl SeqWave {
     // The wave at a place of the source's order, counted from 0.
-    pub fn at(place: u32) -> WaveAt
+    pub fn at(place: u32) -> Option<SeqWave>
         ensures { result ≡ wave_at place }
     {
         match place {
-            0 => WaveAt::Wave(SeqWave::Square),
-            1 => WaveAt::Wave(SeqWave::Triangle),
-            2 => WaveAt::Wave(SeqWave::Sawtooth),
-            3 => WaveAt::Wave(SeqWave::Sine),
-            4 => WaveAt::Wave(SeqWave::Noise),
-            5 => WaveAt::Wave(SeqWave::Fm),
-            6 => WaveAt::Wave(SeqWave::Pluck),
-            7 => WaveAt::Wave(SeqWave::Piano),
-            8 => WaveAt::Wave(SeqWave::Epiano),
-            9 => WaveAt::Wave(SeqWave::Organ),
-            10 => WaveAt::Wave(SeqWave::Strings),
-            11 => WaveAt::Wave(SeqWave::Brass),
-            12 => WaveAt::Wave(SeqWave::Flute),
-            13 => WaveAt::Wave(SeqWave::Mallet),
-            14 => WaveAt::Wave(SeqWave::Bell),
-            15 => WaveAt::Wave(SeqWave::Bass),
-            16 => WaveAt::Wave(SeqWave::Kit),
-            17 => WaveAt::Wave(SeqWave::Cowbell),
-            _ => WaveAt::Nothing,
+            0 => Some(SeqWave::Square),
+            1 => Some(SeqWave::Triangle),
+            2 => Some(SeqWave::Sawtooth),
+            3 => Some(SeqWave::Sine),
+            4 => Some(SeqWave::Noise),
+            5 => Some(SeqWave::Fm),
+            6 => Some(SeqWave::Pluck),
+            7 => Some(SeqWave::Piano),
+            8 => Some(SeqWave::Epiano),
+            9 => Some(SeqWave::Organ),
+            10 => Some(SeqWave::Strings),
+            11 => Some(SeqWave::Brass),
+            12 => Some(SeqWave::Flute),
+            13 => Some(SeqWave::Mallet),
+            14 => Some(SeqWave::Bell),
+            15 => Some(SeqWave::Bass),
+            16 => Some(SeqWave::Kit),
+            17 => Some(SeqWave::Cowbell),
+            _ => None,
         }
     }
 }

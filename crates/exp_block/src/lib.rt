@@ -33,10 +33,8 @@ fn outsiders(x: &[f32; 64], first: usize) -> u64
     ensures { result ≡ 0 → (k : ℕ) → first ≤ k → k < 64 → Falling (get_or x.now k nan) }
 {
     let mut bad = 0u64;
-    let mut i = first;
-    while i < 64 {
+    for i in first..64 {
         bad += outside_f32(x[i]);
-        i += 1;
     }
     bad
 }
@@ -54,10 +52,8 @@ fn exp_all(x: &[f32; 64], first: usize, out: &mut [f32; 64])
     requires out_len { (length out.old ≡ 64) × Tabled (λ k. expf_of (get_or x.now k nan)) nan 0 first out.old }
     ensures { (length out.new ≡ 64) × Tabled (λ k. expf_of (get_or x.now k nan)) nan 0 64 out.new }
 {
-    let mut i = first;
-    while i < 64 {
+    for i in first..64 {
         out[i] = exp_one(x[i]);
-        i += 1;
     }
 }
 
@@ -75,10 +71,8 @@ fn exp_each(x: &[f32; 64], out: &mut [f32; 64])
     requires { length out.old ≡ 64 }
     ensures { (length out.new ≡ 64) × Tabled (λ k. expf_of (get_or x.now k nan)) nan 0 64 out.new }
 {
-    let mut i = 0usize;
-    while i < 64 {
+    for i in 0..64 {
         out[i] = exp_fall::expf(x[i]);
-        i += 1;
     }
 }
 

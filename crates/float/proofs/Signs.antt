@@ -11,8 +11,7 @@ use Rattle.ieee.proofs.Value.{zero_exp}
 use Rattle.ieee.proofs.Between.{neg_neg}
 use Rattle.ieee.proofs.Units.{fits_parts}
 use Rattle.float.specs.Near.{nearby, near_of}
-use Rattle.float.specs.declared.whole_f64.Near.{Near}
-use Rattle.float.specs.declared.whole_f64.Near.TheVariants.{Whole, Other}
+use Rattle.std.specs.Prelude.{None, Option, Some}
 use Rattle.float.proofs.Wholes.{H, H_twice}
 
 abbrev plus_zero_value : Float
@@ -60,23 +59,23 @@ pub large_negative : (f : Format) (g : ℕ → ℕ → ℕ) (x : Float) → T (f
 large_negative f g x fit p t = sym (neg_neg x) ∙ ap neg (large f g (neg x) (neg-fits f x fit) p t) ∙ neg_whole g x
 
 -- ---- what `near_f64` gives: x rounded where its test holds, and then the number of a given one
-pub near_given : (x n : Float) → nearby x ≡ true → n ≡ round_of x → Whole n ≡ near_of x
+pub near_given : (x n : Float) → nearby x ≡ true → n ≡ round_of x → Some n ≡ near_of x
 unfolding near_of
-near_given x n t e = if_true _ t (ap Whole e)
+near_given x n t e = if_true _ t (ap Some e)
 
-pub near_none : (x : Float) → nearby x ≡ false → Other ≡ near_of x
+pub near_none : (x : Float) → nearby x ≡ false → None ≡ near_of x
 unfolding near_of
 near_none x t = if_false _ t refl
 
-pub near_whole : (x : Float) (r : Near) (n : Float) → r ≡ near_of x → r ≡ Whole n → n ≡ round_of x
+pub near_whole : (x : Float) (r : (Option Float)) (n : Float) → r ≡ near_of x → r ≡ Some n → n ≡ round_of x
 unfolding near_of
 near_whole x r n h e = go (nearby x) (sym e ∙ h)
   where
-    go : (b : Bool) → Whole n ≡ cond b (Whole (round_of x)) Other → n ≡ round_of x
+    go : (b : Bool) → Some n ≡ cond b (Some (round_of x)) None → n ≡ round_of x
     go true p = cc
     go false p = let z : ◌≡◌ {A = ℕ} 0 1 = cc in absurd (let no : ⊥ = omega arith in no)
 
-pub near_whole_mirrored : (x : Float) (r : Near) (n : Float) → r ≡ near_of (neg x) → r ≡ Whole n → neg n ≡ round_of x
+pub near_whole_mirrored : (x : Float) (r : (Option Float)) (n : Float) → r ≡ near_of (neg x) → r ≡ Some n → neg n ≡ round_of x
 near_whole_mirrored x r n h e = ap neg (near_whole (neg x) r n h e) ∙ neg_whole half_up x
 
 -- ---- neither above zero nor below it: a zero or a NaN

@@ -13,4 +13,4 @@ pub use cast::{f32_to_i32, f32_to_usize, f64_to_i64, f64_to_usize};
 pub use order::{abs_f32, clamp_f32, max_f32, min_f32, signum_f32, within_f32};
 pub use order_f64::max_f64;
 pub use whole_f32::{floor_f32, fract_f32, round_f32, trunc_f32};
-pub use whole_f64::{Near, floor_f64, near_f64, round_f64, trunc_f64};
+pub use whole_f64::{floor_f64, near_f64, round_f64, trunc_f64};

@@ -6,13 +6,6 @@ ghost use Rattle.ieee.specs.Whole.{whole, cut, raised, half_up, trunc_of, round_
 ghost use Rattle.float.specs.Small.{Small};
 ghost use Rattle.float.specs.Near.{near_of};
 
-// What `near_f64` gives: the rounded number, or nothing.
-#[derive(Clone, Copy)]
-pub enum Near {
-    Whole(f64),
-    Other,
-}
-
 fn nearest_f64(a: f64) -> f64
     requires { Small binary64 a }
     ensures { result ≡ whole closest a }
@@ -105,16 +98,16 @@ pub fn floor_f64(x: f64) -> f64
 // nearest whole number: then it is n. At some halves it is n + 1; there and elsewhere this gives
 // nothing. A caller branches on the answer, so what it computes from n can be begun before the test
 // is decided, where `round_f64` waits to choose between n and n + 1.
-pub fn near_f64(x: f64) -> Near
+pub fn near_f64(x: f64) -> Option<f64>
     ensures { result ≡ near_of x }
 {
     if x > 0.0 {
         if x < 4503599627370496.0 {
             let n = nearest_f64(x);
             if x < n + 0.5 {
-                return Near::Whole(n);
+                return Some(n);
             }
         }
     }
-    Near::Other
+    None
 }

@@ -7,7 +7,7 @@ ghost use Rattle.groove.specs.Timing.{human_gain};
 ghost use Rattle.groove.specs.Mapped.{end_step, step_frames_of, swing_delay64, human_delay64, frame_of, mapped_of, mapped_length};
 
 use crate::humanize::humanize_draws;
-use crate::timing::human_gain;
+use crate::timing::{Human, human_gain};
 use dsl::SeqNote;
 use tempo::TempoMap;
 
@@ -16,23 +16,14 @@ const SWING_MAX_STEP_FRACTION: f32 = 0.5;
 // The largest delay at humanize 1, in steps.
 const HUMANIZE_TIMING_STEP_FRACTION: f32 = 0.12;
 
-fn saturating_add(a: u32, b: u32) -> u32
-    ensures { result ≡ min (a + b) 4294967295 }
-{
-    if a > 4294967295 - b {
-        return 4294967295;
-    }
-    a + b
-}
-
 // Where a note stops, in steps: at least one step on.
 pub fn note_end_step(note: SeqNote) -> u32
     ensures { result ≡ end_step note }
 {
     if note.len < 1 {
-        return saturating_add(note.step, 1);
+        return note.step.saturating_add(1);
     }
-    saturating_add(note.step, note.len)
+    note.step.saturating_add(note.len)
 }
 
 fn widened(n: u32) -> f64
@@ -57,14 +48,7 @@ fn swing_delay_mapped(step: u32, swing: f32, step_frames: f64) -> f64
     0.0
 }
 
-// What humanize makes of a note: its delay in frames, and its gain.
-#[derive(Clone, Copy)]
-struct HumanMapped {
-    delay: f64,
-    gain: f32,
-}
-
-fn humanized_mapped(note: SeqNote, humanize: f32, step_frames: f64) -> HumanMapped
+fn humanized_mapped(note: SeqNote, humanize: f32, step_frames: f64) -> Human<f64>
     requires { numeric note.pitch }
     ensures delay_value { result.delay ≡ human_delay64 note humanize step_frames }
     ensures gain_value { result.gain ≡ human_gain note humanize }
@@ -74,12 +58,12 @@ fn humanized_mapped(note: SeqNote, humanize: f32, step_frames: f64) -> HumanMapp
         let wide = std::num::f32_to_f64_with_nan(humanize);
         let part = std::num::f32_to_f64_with_nan(HUMANIZE_TIMING_STEP_FRACTION);
         let timing = std::num::f32_to_f64_with_nan(draws.timing);
-        return HumanMapped {
+        return Human {
             delay: wide * part * step_frames * timing,
             gain: human_gain(note.gain, humanize, draws.gain),
         };
     }
-    HumanMapped {
+    Human {
         delay: 0.0,
         gain: note.gain,
     }

@@ -37,14 +37,14 @@ pub(crate) fn human_gain(gain: f32, humanize: f32, draw: f32) -> f32
     gain * (1.0 + humanize * HUMANIZE_VELOCITY_FRACTION * draw)
 }
 
-// What humanize makes of a note: its delay in samples, and its gain.
+// What humanize makes of a note: its delay in frames, and its gain.
 #[derive(Clone, Copy)]
-struct Human {
-    delay: f32,
-    gain: f32,
+pub(crate) struct Human<T> {
+    pub(crate) delay: T,
+    pub(crate) gain: f32,
 }
 
-fn humanized(note: SeqNote, humanize: f32, step_dur: f32) -> Human
+fn humanized(note: SeqNote, humanize: f32, step_dur: f32) -> Human<f32>
     requires { numeric note.pitch }
     ensures delay_value { result.delay ≡ human_delay note humanize step_dur }
     ensures gain_value { result.gain ≡ human_gain note humanize }

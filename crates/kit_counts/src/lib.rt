@@ -14,7 +14,7 @@ fn frames_of(ms: usize, rate: u32, frames: usize) -> usize
     ensures { result ≡ frames_of ms rate frames }
 {
     let within = (ms * (rate as usize) + 999) / 1000;
-    if frames < within { frames } else { within }
+    frames.min(within)
 }
 
 // A kick draws for some milliseconds, a cowbell never, and any other drum in each frame.
@@ -35,10 +35,7 @@ fn eight08_within(drum: Drum, rate: u32, frames: usize) -> usize
     match drum {
         Drum::Kick => frames_of(4, rate, frames),
         Drum::Rim => frames_of(3, rate, frames),
-        Drum::ClosedHat => 0,
-        Drum::OpenHat => 0,
-        Drum::Tom(_) => 0,
-        Drum::Cowbell => 0,
+        Drum::ClosedHat | Drum::OpenHat | Drum::Tom(_) | Drum::Cowbell => 0,
         _ => frames,
     }
 }

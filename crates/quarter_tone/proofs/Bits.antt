@@ -11,7 +11,7 @@ use lib.Ieee.Bits.{to_bits-of_bits}
 use Rattle.quarter_tone.specs.Tones.{pattern_at, tone_at}
 use Rattle.quarter_tone.specs.Rule.{units_of}
 use Rattle.quarter_tone.specs.Lookup.{tone_of, tone_bits}
-use Rattle.quarter_tone.specs.declared.QuarterTone.TheVariants.{Tone, Nothing}
+use Rattle.std.specs.Prelude.{None, Some}
 use Rattle.quarter_tone.proofs.Amid.{amid_value}
 use Rattle.quarter_tone.proofs.Nearest.{amid_tone}
 
@@ -28,12 +28,12 @@ tone_pattern : (q : ℕ) → q < 256 → to_bits binary32 (tone_at q) ≡ patter
 tone_pattern q h = to_bits-of_bits binary32 (pattern_at q) (omega (arith, (amid_tone q h).field.1)) (tone_number q h)
 
 -- what was found is an entry
-module _ (q : ℕ) (x : Float) (found : Tone x ≡ tone_of q) where
+module _ (q : ℕ) (x : Float) (found : Some x ≡ tone_of q) where
   pub found_entry : (q < 256) × (x ≡ tone_at q)
   unfolding tone_of
   found_entry = go (ltb q 256) refl found
     where
-      go : (b : Bool) → ltb q 256 ≡ b → Tone x ≡ cond b (Tone (tone_at q)) Nothing → (q < 256) × (x ≡ tone_at q)
+      go : (b : Bool) → ltb q 256 ≡ b → Some x ≡ cond b (Some (tone_at q)) None → (q < 256) × (x ≡ tone_at q)
       go true e f = (ltb-true q 256 e, cc)
       go false e f = let z : ◌≡◌ {A = ℕ} 0 1 = cc in absurd (omega arith)
 
@@ -44,10 +44,10 @@ module _ (q : ℕ) (x : Float) (found : Tone x ≡ tone_of q) where
   unfolding tone_bits
   found_bits = rw (lt-ltb q 256 found_entry.0) (ap (to_bits binary32) found_entry.1 ∙ tone_pattern q found_entry.0)
 
-pub none_found : (q : ℕ) → Nothing ≡ tone_of q → 0 ≡ tone_bits q
+pub none_found : (q : ℕ) → None ≡ tone_of q → 0 ≡ tone_bits q
 unfolding tone_of tone_bits
 none_found q = go (ltb q 256)
   where
-    go : (b : Bool) → Nothing ≡ cond b (Tone (tone_at q)) Nothing → 0 ≡ cond b (pattern_at q) 0
+    go : (b : Bool) → None ≡ cond b (Some (tone_at q)) None → 0 ≡ cond b (pattern_at q) 0
     go true e = cc
     go false e = refl

@@ -6,13 +6,6 @@ ghost use Rattle.std.specs.Prelude.{◌≡◌};
 ghost use Rattle.quarter_tone.specs.Halves.{halves};
 ghost use Rattle.quarter_tone.specs.Lookup.{tone_of, tone_bits};
 
-// The quarter tone of a number in hertz, or nothing for a number above 255.
-#[derive(Clone, Copy)]
-pub enum QuarterTone {
-    Tone(f32),
-    Nothing,
-}
-
 // The entries 232 to 255, an octave. Entry q is the f32 nearest to 440 × 2^((q − 138) / 24), so that each is half the
 // entry 24 places above it, and halving an f32 of this size is exact.
 const HIGHEST: [f32; 24] = [
@@ -25,23 +18,21 @@ fn halved(x: f32, times: u32) -> f32
     ensures { result ≡ halves x times }
 {
     let mut y = x;
-    let mut k = 0u32;
-    while k < times {
+    for _k in 0..times {
         y = y * 0.5;
-        k += 1;
     }
     y
 }
 
-pub fn quarter_tone(q: u32) -> QuarterTone
+pub fn quarter_tone(q: u32) -> Option<f32>
     ensures { result ≡ tone_of q }
 {
     if q < 256 {
         let octaves = (255 - q) / 24;
         let i = (q + 24 * octaves - 232) as usize;
-        QuarterTone::Tone(halved(HIGHEST[i], octaves))
+        Some(halved(HIGHEST[i], octaves))
     } else {
-        QuarterTone::Nothing
+        None
     }
 }
 
@@ -50,7 +41,7 @@ pub fn quarter_tone_bits(q: u32) -> u32
     ensures { result ≡ tone_bits q }
 {
     match quarter_tone(q) {
-        QuarterTone::Tone(hertz) => f32::to_bits(hertz),
-        QuarterTone::Nothing => 0,
+        Some(hertz) => f32::to_bits(hertz),
+        None => 0,
     }
 }

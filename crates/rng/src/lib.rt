@@ -23,14 +23,8 @@ pub struct Rng(u64);
 
 // What a draw gives, and the generator after it.
 #[derive(Clone, Copy)]
-pub struct DrawU64 {
-    pub value: u64,
-    pub rng: Rng,
-}
-
-#[derive(Clone, Copy)]
-pub struct DrawF32 {
-    pub value: f32,
+pub struct Draw<T> {
+    pub value: T,
     pub rng: Rng,
 }
 
@@ -56,35 +50,35 @@ impl Rng {
     }
 
     // The next 64 bits: the state gains GOLDEN_GAMMA and is mixed.
-    pub fn next_u64(self) -> DrawU64
+    pub fn next_u64(self) -> Draw<u64>
         ensures { (result.value ≡ next self.0) × (result.rng.0 ≡ advance self.0) }
     {
         let s = std::num::wrapping_add_u64(self.0, GOLDEN_GAMMA);
-        DrawU64 {
+        Draw {
             value: splitmix_mix(s),
             rng: Rng(s),
         }
     }
 
     // From 0 up to but not at 1, in steps of 2^-24: the top 24 bits, every one of them exact.
-    pub fn unit(self) -> DrawF32
+    pub fn unit(self) -> Draw<f32>
         ensures { (result.value ≡ unit_from self.0) × (result.rng.0 ≡ advance self.0) }
     {
         let d = self.next_u64();
         let rng = d.rng;
-        DrawF32 {
+        Draw {
             value: ((d.value >> 40) as f32) / 16777216.0,
             rng,
         }
     }
 
     // From -1 up to but not at 1, in steps of 2^-23: a sample of white noise.
-    pub fn bi(self) -> DrawF32
+    pub fn bi(self) -> Draw<f32>
         ensures { (result.value ≡ bi_from self.0) × (result.rng.0 ≡ advance self.0) }
     {
         let u = self.unit();
         let rng = u.rng;
-        DrawF32 {
+        Draw {
             value: u.value * 2.0 - 1.0,
             rng,
         }

@@ -11,13 +11,11 @@ fn isqrt48(m: u64) -> u64
     ensures { (result * result ≤ m) × (m < (result + 1) * (result + 1)) }
 {
     let mut r = 0u64;
-    let mut i = 0u64;
-    while i < 24 {
+    for i in 0u64..24 {
         let t = r + (1u64 << (23 - i));
         if t * t <= m {
             r = t;
         }
-        i += 1;
     }
     r
 }

@@ -16,12 +16,10 @@ fn turns(x: &[f32; 384], n: usize, near: &mut [f64; 384]) -> u64
     ensures tabled { result ≡ 0 → Tabled (λ k. reduce2pi (get_or x.now k nan)) nan 0 n near.new }
 {
     let mut bad = 0u64;
-    let mut i = 0usize;
-    while i < n {
+    for i in 0..n {
         let t = turn_one(x[i]);
         near[i] = t.value;
         bad += t.bad;
-        i += 1;
     }
     bad
 }
@@ -33,12 +31,10 @@ fn quarters(near: &[f64; 384], n: usize, q: &mut [f64; 384]) -> u64
         → sine_at (get_or q.new k nan) (get_or near.now k nan ⊟ get_or q.new k nan ⊠ FRAC·PI·2) ≡ sin_reduced (get_or near.now k nan) }
 {
     let mut bad = 0u64;
-    let mut i = 0usize;
-    while i < n {
+    for i in 0..n {
         let t = quarter_one(near[i]);
         q[i] = t.value;
         bad += t.bad;
-        i += 1;
     }
     bad
 }
@@ -48,10 +44,8 @@ fn sines(near: &[f64; 384], q: &[f64; 384], n: usize, out: &mut [f64; 384])
     ensures out_len { length out.new ≡ 384 }
     ensures tabled { Tabled (λ k. sine_at (get_or q.now k nan) (get_or near.now k nan ⊟ get_or q.now k nan ⊠ FRAC·PI·2)) nan 0 n out.new }
 {
-    let mut i = 0usize;
-    while i < n {
+    for i in 0..n {
         out[i] = sine_one(near[i], q[i]);
-        i += 1;
     }
 }
 
@@ -61,12 +55,10 @@ pub fn narrowed(wide: &[f64; 384], n: usize, out: &mut [f32; 384]) -> u64
     ensures tabled { result ≡ 0 → Tabled (λ k. narrow_of (get_or wide.now k nan)) nan 0 n out.new }
 {
     let mut bad = 0u64;
-    let mut i = 0usize;
-    while i < n {
+    for i in 0..n {
         let t = narrow_one(wide[i]);
         out[i] = t.value;
         bad += t.bad;
-        i += 1;
     }
     bad
 }
@@ -76,10 +68,8 @@ fn each(x: &[f32; 384], n: usize, out: &mut [f32; 384])
     ensures out_len { length out.new ≡ 384 }
     ensures tabled { Tabled (λ k. sinf_of (get_or x.now k nan)) nan 0 n out.new }
 {
-    let mut i = 0usize;
-    while i < n {
+    for i in 0..n {
         out[i] = trig::sinf(x[i]);
-        i += 1;
     }
 }
 

@@ -22,15 +22,10 @@ const MOST: f64 = 1267650600228229401496703205376.0; // 2^100, 4630000000000000
 
 const LEAST: f64 = 6.310887241768095e-30; // 2^-97, which is 2^29 times the smallest normal f32, 39e0000000000000
 
+// An answer, and a count that is 0 where it is right: an `Option` would be tested, and the loops would branch.
 #[derive(Clone, Copy)]
-pub struct Tried {
-    pub value: f64,
-    pub bad: u64,
-}
-
-#[derive(Clone, Copy)]
-pub struct Narrowed {
-    pub value: f32,
+pub struct Tried<T> {
+    pub value: T,
     pub bad: u64,
 }
 
@@ -50,7 +45,7 @@ fn unsure(t: f64, limit: f64) -> u64
 }
 
 // x less the nearest number of turns, up to 2^50 of them. Adding 0 makes 0 of -0.
-pub fn turn_one(x: f32) -> Tried
+pub fn turn_one(x: f32) -> Tried<f64>
     ensures { (result.bad ≤ 2) × (result.bad ≡ 0 → result.value ≡ reduce2pi x) }
 {
     let w = rounding::widen(x) + 0.0;
@@ -61,7 +56,7 @@ pub fn turn_one(x: f32) -> Tried
 }
 
 // The number of quarter turns nearest to r, below 2.5.
-pub fn quarter_one(r: f64) -> Tried
+pub fn quarter_one(r: f64) -> Tried<f64>
     ensures { (result.bad ≤ 2) × (result.bad ≡ 0 → sine_at result.value (r ⊟ result.value ⊠ FRAC·PI·2) ≡ sin_reduced r) }
 {
     let t = r / FRAC_PI_2;
@@ -113,7 +108,7 @@ fn rounded(size: u64) -> f64
 }
 
 // x narrowed, by its size and its sign.
-pub fn narrow_one(x: f64) -> Narrowed
+pub fn narrow_one(x: f64) -> Tried<f32>
     ensures { (result.bad ≤ 2) × (result.bad ≡ 0 → result.value ≡ narrow_of x) }
 {
     let v = within(x);
@@ -122,5 +117,5 @@ pub fn narrow_one(x: f64) -> Narrowed
     let one = f64::from_bits(((bits >> 63) << 63) + 0x3ff0_0000_0000_0000);
     let value = (z * one) as f32;
     let bad = not_below(x * x, 4.0);
-    Narrowed { value, bad }
+    Tried { value, bad }
 }

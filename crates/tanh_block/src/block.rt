@@ -13,10 +13,8 @@ fn outsiders(x: &[f32; 384], n: usize) -> u64
     ensures { result ≡ 0 → (k : ℕ) → k < n → Inner (get_or x.now k nan) }
 {
     let mut bad = 0u64;
-    let mut i = 0usize;
-    while i < n {
+    for i in 0..n {
         bad += outside_f32(x[i]);
-        i += 1;
     }
     bad
 }
@@ -27,10 +25,8 @@ fn exps(x: &[f32; 384], n: usize, e: &mut [f64; 384])
     ensures e_len { length e.new ≡ 384 }
     ensures tabled { Tabled (λ k. exp64 (twice (get_or x.now k nan))) nan 0 n e.new }
 {
-    let mut i = 0usize;
-    while i < n {
+    for i in 0..n {
         e[i] = exp_one(x[i]);
-        i += 1;
     }
 }
 
@@ -40,10 +36,8 @@ fn tangents(x: &[f32; 384], e: &[f64; 384], n: usize, out: &mut [f64; 384])
     ensures out_len { length out.new ≡ 384 }
     ensures tabled { Tabled (λ k. tangent_of (get_or x.now k nan) (get_or e.now k nan)) nan 0 n out.new }
 {
-    let mut i = 0usize;
-    while i < n {
+    for i in 0..n {
         out[i] = tangent_one(x[i], e[i]);
-        i += 1;
     }
 }
 
@@ -52,10 +46,8 @@ fn each(x: &[f32; 384], n: usize, out: &mut [f32; 384])
     ensures out_len { length out.new ≡ 384 }
     ensures tabled { Tabled (λ k. tanhf_of (get_or x.now k nan)) nan 0 n out.new }
 {
-    let mut i = 0usize;
-    while i < n {
+    for i in 0..n {
         out[i] = det::tanhf(x[i]);
-        i += 1;
     }
 }
 

@@ -26,13 +26,11 @@ fn all_fine(map: TempoMap) -> bool
     ensures { result ≡ all_of fine_at (points map) }
 {
     let n = map.len();
-    let mut i = 0usize;
-    while i < n {
+    for i in 0..n {
         let p = map.points[i];
         if !is_fine(p) {
             return false;
         }
-        i += 1;
     }
     true
 }
@@ -42,8 +40,7 @@ fn rises(map: TempoMap) -> bool
     ensures { result ≡ chain rises_to (points map) }
 {
     let n = map.len();
-    let mut i = 1usize;
-    while i < n {
+    for i in 1..n {
         let j = i - 1;
         let p = map.points[j];
         let q = map.points[i];
@@ -51,7 +48,6 @@ fn rises(map: TempoMap) -> bool
         if !before.lt(q.at) {
             return false;
         }
-        i += 1;
     }
     true
 }

@@ -88,16 +88,14 @@ fn tempo_from(map: TempoMap, from: Walk, beat: f64) -> f64
     ensures { result ≡ tempo_from beat (drop from.next (points map)) from.bpm }
 {
     let n = map.len();
-    let mut i = from.next;
     let mut bpm = from.bpm;
-    while i < n {
+    for i in from.next..n {
         let p = map.points[i];
         let place = p.at;
         if beat < place.to_f64() {
             return bpm;
         }
         bpm = floor_bpm(p.bpm);
-        i += 1;
     }
     bpm
 }

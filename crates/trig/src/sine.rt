@@ -3,8 +3,6 @@ ghost use Rattle.std.specs.Prelude.{◌≡◌};
 ghost use Rattle.ieee.specs.Whole.{round_of};
 ghost use Rattle.trig.specs.Trig.{sin_poly, cos_poly, less_turns, reduce2pi, rem_euclid4, quadrant, sin_reduced, sin64, cos64};
 
-use float::Near;
-
 // 2π in three parts: the later ones carry what the f64 nearest to 2π drops.
 const PI2_HI: f64 = 6.28318530717958647692528676655900577; // TAU, 401921fb54442d18
 
@@ -67,8 +65,7 @@ pub fn less_turns(x: f64, k: f64) -> f64
 fn less_rounded(x: f64, t: f64) -> f64
     ensures { result ≡ less_turns x (round_of t) }
 {
-    let near = float::near_f64(t);
-    if let Near::Whole(n) = near {
+    if let Some(n) = float::near_f64(t) {
         return less_turns(x, n);
     }
     less_turns(x, float::round_f64(t))

@@ -11,6 +11,3 @@ use Rattle.exp_block.proofs.exp_each.Given as goal
 
 abbrev pub invariant-loop-i : goal.invariant-loop-i
 invariant-loop-i l = (l.i ≤ 64) × (length l.out ≡ 64) × Tabled (λ k. expf_of (get_or l.x k nan)) nan 0 l.i l.out
-
-abbrev pub decreases-loop-i : goal.decreases-loop-i
-decreases-loop-i l = 64 - l.i

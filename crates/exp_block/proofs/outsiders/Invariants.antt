@@ -12,6 +12,3 @@ use Rattle.exp_block.proofs.outsiders.Given as goal
 
 abbrev pub invariant-loop-i : goal.invariant-loop-i
 invariant-loop-i l = (l.i ≤ 64) × (l.bad ≤ l.i * 3) × (l.bad ≡ 0 → (k : ℕ) → l.first ≤ k → k < l.i → Falling (get_or l.x k nan))
-
-abbrev pub decreases-loop-i : goal.decreases-loop-i
-decreases-loop-i l = 64 - l.i

@@ -1,5 +1,5 @@
 -- `kit_counts::eight08_within` meets its contract. Assumes nothing.
-use borrow.Author.Rules.{rules}
+use mathlib.Core.Logic.{inl, inr}
 use Rattle.kit_counts.specs.KitDraws.{eight08_within}
 use Rattle.kit_counts.proofs.Others.{eight08_in_each}
 use Rattle.kit_counts.proofs.eight08_within.Goals as goal
@@ -12,21 +12,11 @@ pub returns-in-Rim : goal.returns-in-Rim
 unfolding eight08_within
 returns-in-Rim c = rw c.in-Rim.is c.frames_of-in-Rim.ensures
 
+-- the hats, the toms and the cowbell
 pub returns-in-ClosedHat : goal.returns-in-ClosedHat
 unfolding eight08_within
-returns-in-ClosedHat c = rw c.in-ClosedHat.is
-
-pub returns-in-OpenHat : goal.returns-in-OpenHat
-unfolding eight08_within
-returns-in-OpenHat c = rw c.in-OpenHat.is
-
-pub returns-in-Tom : goal.returns-in-Tom
-unfolding eight08_within
-returns-in-Tom c = rw c.in-Tom.is
-
-pub returns-in-Cowbell : goal.returns-in-Cowbell
-unfolding eight08_within
-returns-in-Cowbell c = rw c.in-Cowbell.is
+returns-in-ClosedHat c =
+    elim c.in-ClosedHat.is [ inl e ↦ rw e | inr h ↦ elim h [ inl e ↦ rw e | inr i ↦ elim i [ inl e ↦ rw e.1 | inr e ↦ rw e ] ] ]
 
 pub returns-in_default : goal.returns-in_default
 returns-in_default c =

@@ -8,7 +8,4 @@ use Rattle.quarter_tone.proofs.Halving.{halved_none, halved_more}
 use Rattle.quarter_tone.proofs.halved.Given as goal
 
 abbrev pub invariant-loop-k : goal.invariant-loop-k
-invariant-loop-k l = (l.k ≤ l.times) × (l.y ≡ halves l.x l.k)
-
-abbrev pub decreases-loop-k : goal.decreases-loop-k
-decreases-loop-k l = l.times - l.k
+invariant-loop-k l = (l._k ≤ l.times) × (l.y ≡ halves l.x l._k)

@@ -5,10 +5,10 @@ use Rattle.quarter_tone.proofs.Bits.{found_number, found_bits, none_found}
 use Rattle.quarter_tone.proofs.quarter_tone_bits.Goals as goal
 
 pub float_to_bits-result : goal.float_to_bits-result
-float_to_bits-result c = found_number _ _ (sym c.in-Tone.is ∙ c.quarter_tone.ensures)
+float_to_bits-result c = found_number _ _ (sym c.in-Some.is ∙ c.quarter_tone.ensures)
 
-pub returns-in-Tone : goal.returns-in-Tone
-returns-in-Tone c = found_bits _ _ (sym c.in-Tone.is ∙ c.quarter_tone.ensures)
+pub returns-in-Some : goal.returns-in-Some
+returns-in-Some c = found_bits _ _ (sym c.in-Some.is ∙ c.quarter_tone.ensures)
 
-pub returns-in-Nothing : goal.returns-in-Nothing
-returns-in-Nothing c = none_found _ (sym c.in-Nothing.is ∙ c.quarter_tone.ensures)
+pub returns-in-None : goal.returns-in-None
+returns-in-None c = none_found _ (sym c.in-None.is ∙ c.quarter_tone.ensures)

@@ -48,5 +48,5 @@ returns c =
     let den : 0 < c.args.den = omega arith in
     let most : g ≤ c.args.den = le_of_dvd den c.gcd-g.ensures.right in
     let fit : SFits w64 c.args.num = search rules in
-    reduced_by c.args.num c.args.den g (rw (c.unsigned_abs.ensures ∙ ap nat_abs (to_z-of_z fit)) at c.gcd-g.ensures) den _
+    reduced_by c.args.num c.args.den g (rw (c.unsigned_abs.ensures.value ∙ ap nat_abs (to_z-of_z fit)) at c.gcd-g.ensures) den _
     (rw (to_z-of_z fit, to_z_pos w64 {n = g} (omega arith)) (to_z-of_z (quot_fits c.args.num g c.requires.num_bound))) refl

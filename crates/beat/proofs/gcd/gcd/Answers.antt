@@ -1,5 +1,5 @@
 use Rattle.std.proofs.Common.{mod-lt, arith}
-use Rattle.beat.proofs.Euclid.{Steps, steps_none, steps_more, steps_end}
+use Rattle.beat.proofs.Euclid.{steps_none, steps_more, steps_end}
 use Rattle.beat.proofs.gcd.gcd.Goals as goal
 
 pub loop-b-init : goal.loop-b-init

@@ -1,6 +1,5 @@
 -- The loops of `beat::gcd::gcd`.
-use Rattle.std.proofs.Common.{mod-lt, arith}
-use Rattle.beat.proofs.Euclid.{Steps, steps_none, steps_more, steps_end}
+use Rattle.beat.proofs.Euclid.{Steps}
 use Rattle.beat.proofs.gcd.gcd.Given as goal
 
 abbrev pub invariant-loop-b : goal.invariant-loop-b

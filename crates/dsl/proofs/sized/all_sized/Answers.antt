@@ -9,13 +9,13 @@ use Rattle.dsl.specs.Sized.{all_sized}
 use Rattle.dsl.proofs.Sizing.{passed, ended}
 use Rattle.dsl.proofs.sized.all_sized.Goals as goal
 
-pub loop-i-init : goal.loop-i-init
-loop-i-init c = (refl, omega arith)
+pub loop-x-init : goal.loop-x-init
+loop-x-init c = (refl, omega arith)
 
-pub loop-i-preserved : goal.loop-i-preserved
-loop-i-preserved c =
-    let at = c.loop-i in
-    (passed c.args.xs.now at.i at.all c.is_sized-all.result c.is_sized-all.ensures (omega arith) at.invariant.0, omega arith)
+pub loop-x-preserved : goal.loop-x-preserved
+loop-x-preserved c =
+    let at = c.loop-x in
+    (passed c.args.xs.now at.x-index at.all c.is_sized-all.result c.is_sized-all.ensures (omega arith) at.invariant.0, omega arith)
 
 pub returns : goal.returns
-returns c = ended c.args.xs.now c.loop-i.i c.loop-i.all c.loop-i.invariant.0 (omega arith)
+returns c = ended c.args.xs.now c.loop-x.x-index c.loop-x.all c.loop-x.invariant.0 (omega arith)

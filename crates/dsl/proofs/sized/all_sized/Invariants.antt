@@ -9,8 +9,5 @@ use Rattle.dsl.specs.Sized.{all_sized}
 use Rattle.dsl.proofs.Sizing.{passed, ended}
 use Rattle.dsl.proofs.sized.all_sized.Given as goal
 
-abbrev pub invariant-loop-i : goal.invariant-loop-i
-invariant-loop-i l = (cond l.all (all_sized (drop l.i l.xs)) false ≡ all_sized l.xs) × (l.i ≤ length l.xs)
-
-abbrev pub decreases-loop-i : goal.decreases-loop-i
-decreases-loop-i l = length l.xs - l.i
+abbrev pub invariant-loop-x : goal.invariant-loop-x
+invariant-loop-x l = (cond l.all (all_sized (drop l.x-index l.xs)) false ≡ all_sized l.xs) × (l.x-index ≤ length l.xs)

@@ -13,6 +13,3 @@ use Rattle.sin_block.proofs.block.quarters.Given as goal
 
 abbrev pub invariant-loop-i : goal.invariant-loop-i
 invariant-loop-i l = Counted (λ k y. sine_at y (get_or l.near k nan ⊟ y ⊠ FRAC·PI·2) ≡ sin_reduced (get_or l.near k nan)) nan 384 l.n l.i l.bad l.q
-
-abbrev pub decreases-loop-i : goal.decreases-loop-i
-decreases-loop-i l = l.n - l.i

@@ -13,6 +13,3 @@ use Rattle.sin_block.proofs.block.sines.Given as goal
 
 abbrev pub invariant-loop-i : goal.invariant-loop-i
 invariant-loop-i l = (l.i ≤ l.n) × (length l.out ≡ 384) × Tabled (λ k. sine_at (get_or l.q k nan) (get_or l.near k nan ⊟ get_or l.q k nan ⊠ FRAC·PI·2)) nan 0 l.i l.out
-
-abbrev pub decreases-loop-i : goal.decreases-loop-i
-decreases-loop-i l = l.n - l.i

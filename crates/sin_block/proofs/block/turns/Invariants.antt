@@ -11,6 +11,3 @@ use Rattle.sin_block.proofs.block.turns.Given as goal
 
 abbrev pub invariant-loop-i : goal.invariant-loop-i
 invariant-loop-i l = Counted (λ k y. y ≡ reduce2pi (get_or l.x k nan)) nan 384 l.n l.i l.bad l.near
-
-abbrev pub decreases-loop-i : goal.decreases-loop-i
-decreases-loop-i l = l.n - l.i

@@ -11,6 +11,3 @@ use Rattle.tanh_block.proofs.block.each.Given as goal
 
 abbrev pub invariant-loop-i : goal.invariant-loop-i
 invariant-loop-i l = (l.i ≤ l.n) × (length l.out ≡ 384) × Tabled (λ k. tanhf_of (get_or l.x k nan)) nan 0 l.i l.out
-
-abbrev pub decreases-loop-i : goal.decreases-loop-i
-decreases-loop-i l = l.n - l.i

@@ -12,6 +12,3 @@ use Rattle.tanh_block.proofs.block.exps.Given as goal
 
 abbrev pub invariant-loop-i : goal.invariant-loop-i
 invariant-loop-i l = (l.i ≤ l.n) × (length l.e ≡ 384) × Tabled (λ k. exp64 (twice (get_or l.x k nan))) nan 0 l.i l.e
-
-abbrev pub decreases-loop-i : goal.decreases-loop-i
-decreases-loop-i l = l.n - l.i

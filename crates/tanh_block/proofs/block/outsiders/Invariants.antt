@@ -11,6 +11,3 @@ use Rattle.tanh_block.proofs.block.outsiders.Given as goal
 
 abbrev pub invariant-loop-i : goal.invariant-loop-i
 invariant-loop-i l = (l.i ≤ l.n) × (l.bad ≤ l.i * 4) × (l.bad ≡ 0 → (k : ℕ) → k < l.i → Inner (get_or l.x k nan))
-
-abbrev pub decreases-loop-i : goal.decreases-loop-i
-decreases-loop-i l = l.n - l.i

@@ -22,8 +22,8 @@ returns-then-not-is_fine c =
     let lt : c.loop-i.i < length (points m) = omega (arith, n) in
     all_fails fine_at m _ lt _ c.is_fine.ensures (not-true _ c.if-not-is_fine.true-raw) ∙ c.loop-i.invariant
 
-pub overflow_add-i : goal.overflow_add-i
-overflow_add-i c = let most : c.len-n.result ≤ 64 = c.len-n.ensures.upper_bound in record { fits = omega (arith, most) }
+pub overflow_step-i : goal.overflow_step-i
+overflow_step-i c = let most : c.len-n.result ≤ 64 = c.len-n.ensures.upper_bound in record { fits = omega (arith, most) }
 
 pub loop-i-preserved : goal.loop-i-preserved
 loop-i-preserved c =

@@ -8,6 +8,3 @@ use Rattle.tempo.proofs.judge.all_fine.Given as goal
 
 abbrev pub invariant-loop-i : goal.invariant-loop-i
 invariant-loop-i l = all_of fine_at (drop l.i (points l.map)) ≡ all_of fine_at (points l.map)
-
-abbrev pub decreases-loop-i : goal.decreases-loop-i
-decreases-loop-i l = l.n - l.i

@@ -40,8 +40,8 @@ returns-then-not-lt c =
     let lt : c.loop-i.i < length (points m) = omega (arith, n) in
     chain_fails rises_to m _ c.loop-i.invariant.0 lt _ c.lt.ensures (not-true _ c.if-not-lt.true-raw) ∙ c.loop-i.invariant.1
 
-pub overflow_add-i : goal.overflow_add-i
-overflow_add-i c =
+pub overflow_step-i : goal.overflow_step-i
+overflow_step-i c =
     let most : c.len-n.result ≤ 64 = c.len-n.ensures.upper_bound in record { fits = omega (arith, most) }
 
 pub loop-i-preserved : goal.loop-i-preserved

@@ -8,6 +8,3 @@ use Rattle.tempo.proofs.judge.rises.Given as goal
 
 abbrev pub invariant-loop-i : goal.invariant-loop-i
 invariant-loop-i l = (1 ≤ l.i) × (chain rises_to (drop (l.i - 1) (points l.map)) ≡ chain rises_to (points l.map))
-
-abbrev pub decreases-loop-i : goal.decreases-loop-i
-decreases-loop-i l = l.n - l.i

@@ -20,8 +20,8 @@ returns-then-beat-to_f64 c =
     let lt : c.loop-i.i < length (points m) = omega (arith, n) in
     tempo_here m _ _ _ _ lt c.to_f64.ensures c.if-beat-to_f64.true ∙ c.loop-i.invariant
 
-pub overflow_add-i : goal.overflow_add-i
-overflow_add-i c =
+pub overflow_step-i : goal.overflow_step-i
+overflow_step-i c =
     let most : c.len-n.result ≤ 64 = c.len-n.ensures.upper_bound in record { fits = omega (arith, most) }
 
 pub loop-i-preserved : goal.loop-i-preserved

@@ -6,6 +6,3 @@ use Rattle.tempo.proofs.walk.tempo_from.Given as goal
 
 abbrev pub invariant-loop-i : goal.invariant-loop-i
 invariant-loop-i l = onward_tempo l.map l.beat l.i l.bpm ≡ onward_tempo l.map l.beat l.initial.i l.initial.bpm
-
-abbrev pub decreases-loop-i : goal.decreases-loop-i
-decreases-loop-i l = l.n - l.i

@@ -1,4 +1,4 @@
-use Rattle.std.proofs.Common.{to_z-of_z, w64, SFits, rules}
+use Rattle.std.proofs.Common.{to_z-of_z, w64, SFits}
 use Rattle.beat.specs.Beat.{beat64}
 use Rattle.beat.proofs.beat.Beat.to_f64.Goals as goal
 

@@ -2,7 +2,7 @@
 use mathlib.Core.Path.{sym}
 use Prim.Native.Nat.{zero-le}
 use lib.ListN.{get_or-eq_default}
-use Rattle.dsl.specs.declared.kit.StyleAt.TheVariants.{NoStyle}
+use Rattle.std.specs.Prelude.{None}
 use Rattle.dsl.specs.Kit.{styles, style_at}
 use Rattle.dsl.proofs.Places.{past}
 use Rattle.dsl.proofs.kit.KitStyle.at.Goals as goal
@@ -27,4 +27,4 @@ pub returns-in_default : goal.returns-in_default
 unfolding style_at
 returns-in_default c =
     let r = c.in_default.in_default-own.rest in
-    sym (get_or-eq_default styles NoStyle (past _ 3 (past _ 2 (past _ 1 (past _ 0 zero-le r.0.0.0.1) r.0.0.1) r.0.1) r.1))
+    sym (get_or-eq_default styles None (past _ 3 (past _ 2 (past _ 1 (past _ 0 zero-le r.0.0.0.1) r.0.0.1) r.0.1) r.1))

@@ -12,6 +12,3 @@ use Rattle.dsl.proofs.pitch.Reading.block_each.Given as goal
 
 abbrev pub invariant-loop-i : goal.invariant-loop-i
 invariant-loop-i l = (l.from ≤ l.i) × (l.i ≤ l.end) × (length l.f ≡ 64) × Tabled (pitch_at l.self l.lane) nan l.from l.i l.f
-
-abbrev pub decreases-loop-i : goal.decreases-loop-i
-decreases-loop-i l = l.end - l.i
