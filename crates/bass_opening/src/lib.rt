@@ -2,7 +2,7 @@
 // exponential waits for the filter.
 #![tactic(auto)]
 
-ghost use Rattle.std.specs.Prelude.{◌≡◌, ◌+◌, ◌≤◌, length, get_or};
+ghost use Rattle.std.specs.Prelude.{◌≡◌, ◌+◌, ◌≤◌, length};
 ghost use Rattle.std.specs.Float.{nan};
 ghost use Rattle.blocks.proofs.Block.{Tabled};
 ghost use Rattle.bass_opening.specs.Cutoff.{bass_argument_by, bass_opening_at};
@@ -21,24 +21,6 @@ fn argument(bass: BassKnobs, gain: f32, srf: f32, env: f32, click: f32) -> f32
     -dsp::TAU * cutoff / srf
 }
 
-fn arguments(
-    bass: BassKnobs,
-    gain: f32,
-    srf: f32,
-    env: &[f32; 64],
-    click: &[f32; 64],
-    x: &mut [f32; 64],
-)
-    requires { length x.old ≡ 64 }
-    ensures { Tabled (λ k. bass_argument_by bass gain srf (get_or env.now k nan) (get_or click.now k nan)) nan 0 64 x.new }
-{
-    let mut i = 0usize;
-    while i < 64 {
-        x[i] = argument(bass, gain, srf, env[i], click[i]);
-        i += 1;
-    }
-}
-
 // The openings of the frames from `from` on and before `end`.
 pub fn openings(bass: BassKnobs, gain: f32, srf: f32, from: usize, end: usize, a: &mut [f32; 64])
     requires from_le_end { (from ≤ end) × (end ≤ from + 64) × (end ≤ 16777216) }
@@ -51,6 +33,11 @@ pub fn openings(bass: BassKnobs, gain: f32, srf: f32, from: usize, end: usize, a
     let mut click = [0.0f32; 64];
     frame_block::decays_before(srf, BASS_CLICK_TAU, from, end, &mut click);
     let mut x = [0.0f32; 64];
-    arguments(bass, gain, srf, &env, &click, &mut x);
+    frame_block::table(
+        0,
+        64,
+        &mut x,
+        |i| argument(bass, gain, srf, env[i], click[i]),
+    );
     opening_block::openings(&x, a);
 }

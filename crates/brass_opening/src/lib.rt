@@ -2,7 +2,7 @@
 // exponential waits for the filter.
 #![tactic(auto)]
 
-ghost use Rattle.std.specs.Prelude.{◌≡◌, ◌+◌, ◌≤◌, length, get_or};
+ghost use Rattle.std.specs.Prelude.{◌≡◌, ◌+◌, ◌≤◌, length};
 ghost use Rattle.std.specs.Float.{nan};
 ghost use Rattle.blocks.proofs.Block.{Tabled};
 ghost use Rattle.dsl.specs.Domain.{Frames};
@@ -25,17 +25,6 @@ fn cutoff(gain: f32, srf: f32, e: f32) -> f32
     -dsp::TAU * float::min_f32(c, 0.45 * srf) / srf
 }
 
-fn cutoffs(gain: f32, srf: f32, e: &[f32; 64], x: &mut [f32; 64])
-    requires { length x.old ≡ 64 }
-    ensures { Tabled (λ k. cutoff_by gain srf (get_or e.now k nan)) nan 0 64 x.new }
-{
-    let mut i = 0usize;
-    while i < 64 {
-        x[i] = cutoff(gain, srf, e[i]);
-        i += 1;
-    }
-}
-
 // The openings of 64 frames.
 fn openings_whole(gain: f32, srf: f32, from: usize, a: &mut [f32; 64])
     requires from_bound { from + 64 ≤ 16777216 }
@@ -45,22 +34,8 @@ fn openings_whole(gain: f32, srf: f32, from: usize, a: &mut [f32; 64])
     let mut e = [0.0f32; 64];
     frame_block::decays_before(srf, 0.07, from, from + 64, &mut e);
     let mut u = [0.0f32; 64];
-    cutoffs(gain, srf, &e, &mut u);
+    frame_block::table(0, 64, &mut u, |i| cutoff(gain, srf, e[i]));
     opening_block::openings(&u, a);
-}
-
-// The openings of a few frames.
-fn openings_part(gain: f32, srf: f32, from: usize, end: usize, a: &mut [f32; 64])
-    requires from_le_end { (from ≤ end) × (end ≤ from + 64) × (end ≤ 16777216) }
-    requires a_len { length a.old ≡ 64 }
-    ensures { (length a.new ≡ 64) × Tabled (opening_at gain srf) nan from end a.new }
-{
-    let mut i = from;
-    while i < end {
-        let x = opening(gain, srf, i);
-        a[i - from] = x;
-        i += 1;
-    }
 }
 
 // A block of fewer frames is cheaper one by one.
@@ -76,6 +51,6 @@ pub fn openings(gain: f32, srf: f32, from: usize, end: usize, a: &mut [f32; 64])
     if end - from >= FEW && from <= 16777152 {
         openings_whole(gain, srf, from, a);
     } else {
-        openings_part(gain, srf, from, end, a);
+        frame_block::table(from, end, a, |i| opening(gain, srf, i));
     }
 }

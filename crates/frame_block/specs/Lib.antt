@@ -1,1 +1,3 @@
 pub mod Decay
+pub mod Run
+pub mod Table

@@ -1,16 +1,20 @@
 // What voices and drums in blocks of up to 64 frames share: where a block ends, where the last whole block
-// ends, the levels that need nothing but the frames' times, and rows of a table.
+// ends, the levels that need nothing but the frames' times, rows of a table, and the frames of a block.
 #![tactic(auto)]
 
 mod decay; // decay.rt: exp(-t / decay) of a block
-mod part; // part.rt: the same of a block that may be shorter
+mod levels; // levels.rt: a table of levels by the frames' numbers
+mod part; // part.rt: exp(-t / decay) and other exponentials of a block that may be shorter
 mod row; // row.rt: some values of a frame, stored in a table
+mod run; // run.rt: frames one after another
 
 ghost use Rattle.std.specs.Prelude.{◌≡◌, ◌+◌, ◌%◌, ◌≤◌, ◌<◌};
 
 pub use decay::decays;
+pub use levels::table;
 pub use part::{decays_before, exps_before, zeros_before};
-pub use row::{store2, store3, store6};
+pub use row::store;
+pub use run::frames;
 
 // How many of n frames make whole blocks.
 pub fn whole_blocks(n: usize) -> usize

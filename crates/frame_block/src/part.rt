@@ -8,6 +8,7 @@ ghost use Rattle.dsp.specs.Kernels.{exp_of};
 ghost use Rattle.ieee.specs.Numbers.{c0};
 
 use crate::decay::{decay_by, decays};
+use crate::levels::table;
 
 // The level at frame i.
 fn level(srf: f32, decay: f32, i: usize) -> f32
@@ -27,20 +28,6 @@ fn decays_whole(srf: f32, decay: f32, from: usize, a: &mut [f32; 64])
     decays(srf, decay, from, &mut x, a);
 }
 
-// The levels of a few frames.
-fn decays_part(srf: f32, decay: f32, from: usize, end: usize, a: &mut [f32; 64])
-    requires from_le_end { (from ≤ end) × (end ≤ from + 64) × (end ≤ 16777216) }
-    requires a_len { length a.old ≡ 64 }
-    ensures { (length a.new ≡ 64) × Tabled (decay_at srf decay) nan from end a.new }
-{
-    let mut i = from;
-    while i < end {
-        let x = level(srf, decay, i);
-        a[i - from] = x;
-        i += 1;
-    }
-}
-
 // A block of fewer frames is cheaper one by one.
 const FEW: usize = 40;
 
@@ -54,20 +41,7 @@ pub fn decays_before(srf: f32, decay: f32, from: usize, end: usize, a: &mut [f32
     if end - from >= FEW && from <= 16777152 {
         decays_whole(srf, decay, from, a);
     } else {
-        decays_part(srf, decay, from, end, a);
-    }
-}
-
-// The exponentials of a few arguments.
-fn exps_part(x: &[f32; 64], n: usize, out: &mut [f32; 64])
-    requires n_bound { n ≤ 64 }
-    requires out_len { length out.old ≡ 64 }
-    ensures { (length out.new ≡ 64) × Tabled (λ k. exp_of (get_or x.now k nan)) nan 0 n out.new }
-{
-    let mut i = 0usize;
-    while i < n {
-        out[i] = dsp::exp(x[i]);
-        i += 1;
+        table(from, end, a, |i| level(srf, decay, i));
     }
 }
 
@@ -80,7 +54,7 @@ pub fn exps_before(x: &[f32; 64], n: usize, out: &mut [f32; 64])
     if n >= FEW {
         exp_block::expf_block(x, out);
     } else {
-        exps_part(x, n, out);
+        table(0, n, out, |i| dsp::exp(x[i]));
     }
 }
 
@@ -90,9 +64,5 @@ pub fn zeros_before(from: usize, end: usize, a: &mut [f32; 64])
     requires a_len { length a.old ≡ 64 }
     ensures { (length a.new ≡ 64) × Tabled (λ _. c0) nan from end a.new }
 {
-    let mut i = from;
-    while i < end {
-        a[i - from] = 0.0;
-        i += 1;
-    }
+    table(from, end, a, |_| 0.0);
 }

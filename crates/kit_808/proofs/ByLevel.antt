@@ -1,7 +1,6 @@
 -- A frame by its level is the definition's, and which drums have none. Assumes nothing.
 use Prim.Native.Nat.{ℕ}
 use mathlib.Core.Path.{◌≡◌, refl}
-use mathlib.Core.List.{List, [], ◌∷◌}
 use lib.Ieee.{Float}
 use Rattle.ieee.specs.Numbers.{c0}
 use Rattle.osc.specs.Phase.{seconds}

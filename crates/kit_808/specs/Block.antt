@@ -8,7 +8,7 @@ use Rattle.kit_parts.specs.Parts.{fade, filtered, bi, drawn}
 use Rattle.drum.specs.declared.Drum.{Drum}
 use Rattle.drum.specs.declared.Drum.TheVariants.{Kick, Snare, Rim, Clap, ClosedHat, OpenHat, Tom, Cowbell, Crash, Ride, Unmapped}
 use Rattle.kit_808.specs.declared.drums.Eight08State.{Eight08State}
-use Rattle.kit_808.specs.declared.drums.Eight08Out.{Eight08Out}
+use Rattle.osc.specs.declared.Out.{Out}
 use Rattle.kit_808.specs.Drums.{eight08_kick, eight08_snare, eight08_rim, burst_of, eight08_tom}
 use Rattle.kit_808.specs.Metal.{eight08_closed_hat, eight08_open_hat, eight08_cowbell, eight08_crash, eight08_ride}
 
@@ -30,7 +30,7 @@ eight08_level Crash t = c0
 eight08_level Ride t = c0
 eight08_level Unmapped t = fade t c0·08
 
-unfoldable pub eight08_clap_by : Float → Float → Float → Eight08State → Eight08Out
+unfoldable pub eight08_clap_by : Float → Float → Float → Eight08State → Out Eight08State
 eight08_clap_by level cloA chiA s =
     let clp = filtered s.clp cloA (bi s.rng) in
     let chp = filtered s.chp chiA clp in
@@ -39,14 +39,14 @@ eight08_clap_by level cloA chiA s =
       state = record { hlp = s.hlp; clp = clp; chp = chp; phase = s.phase; rng = drawn s.rng };
     }
 
-unfoldable pub eight08_noise_by : Float → Eight08State → Eight08Out
+unfoldable pub eight08_noise_by : Float → Eight08State → Out Eight08State
 eight08_noise_by level s = record {
   sample = bi s.rng ⊗ level;
   state = record { hlp = s.hlp; clp = s.clp; chp = s.chp; phase = s.phase; rng = drawn s.rng };
 }
 
 -- frame i, whose level is given
-unfoldable pub eight08_by : Drum → Float → Float → Float → Float → Float → ℕ → Eight08State → Eight08Out
+unfoldable pub eight08_by : Drum → Float → Float → Float → Float → Float → ℕ → Eight08State → Out Eight08State
 eight08_by Kick level srf a6000 cloA chiA i s = eight08_kick srf (seconds srf i) s
 eight08_by Snare level srf a6000 cloA chiA i s = eight08_snare a6000 (seconds srf i) s
 eight08_by Rim level srf a6000 cloA chiA i s = eight08_rim (seconds srf i) s

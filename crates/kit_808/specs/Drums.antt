@@ -10,7 +10,7 @@ use Rattle.rng.specs.declared.Rng.{Rng}
 use Rattle.kit_parts.specs.Numbers.{c0·0015, c0·02, c0·025, c0·07, c0·08, c0·1, c0·22, c0·32, c0·7, c1·1, c26, c52, c68, c90, c175, c330, c1600, c1700}
 use Rattle.kit_parts.specs.Parts.{tone, fade, filtered, turned, bi, drawn, drawn_if}
 use Rattle.kit_808.specs.declared.drums.Eight08State.{Eight08State}
-use Rattle.kit_808.specs.declared.drums.Eight08Out.{Eight08Out}
+use Rattle.osc.specs.declared.Out.{Out}
 
 -- whether a kick clicks, and whether a rim snaps, at the time t
 abbrev pub clicks : Float → Bool
@@ -22,7 +22,7 @@ snaps t = lt t c0·003
 unfoldable pub eight08_click : Float → Rng → Float
 eight08_click t rng = cond (clicks t) ((bi rng ⊗ c0·5 ⊕ tone c1600 t ⊗ c0·5) ⊗ fade t c0·0015) c0
 
-unfoldable pub eight08_kick : Float → Float → Eight08State → Eight08Out
+unfoldable pub eight08_kick : Float → Float → Eight08State → Out Eight08State
 eight08_kick srf t s =
     let fk = c52 ⊕ c68 ⊗ fade t c0·025 in
     let phase = turned s.phase fk srf in
@@ -32,7 +32,7 @@ eight08_kick srf t s =
       state = record { hlp = s.hlp; clp = s.clp; chp = s.chp; phase = phase; rng = drawn_if (clicks t) s.rng };
     }
 
-unfoldable pub eight08_snare : Float → Float → Eight08State → Eight08Out
+unfoldable pub eight08_snare : Float → Float → Eight08State → Out Eight08State
 eight08_snare a6000 t s =
     let body = (tone c175 t ⊕ tone c330 t) ⊗ c0·32 ⊗ fade t c0·1 in
     let w = bi s.rng in
@@ -45,7 +45,7 @@ eight08_snare a6000 t s =
 unfoldable pub eight08_snap : Float → Rng → Float
 eight08_snap t rng = cond (snaps t) (bi rng ⊗ c0·3 ⊗ fade t c0·001) c0
 
-unfoldable pub eight08_rim : Float → Eight08State → Eight08Out
+unfoldable pub eight08_rim : Float → Eight08State → Out Eight08State
 eight08_rim t s =
     let tick = tone c1700 t ⊗ c0·7 ⊗ fade t c0·006 in
     record {
@@ -59,7 +59,7 @@ burst_of t =
     let ph = rem_of t c0·01 ⊘ c0·01 in
     cond (lt t c0·03) (fade ph c0·22) c0
 
-unfoldable pub eight08_clap : Float → Float → Float → Eight08State → Eight08Out
+unfoldable pub eight08_clap : Float → Float → Float → Eight08State → Out Eight08State
 eight08_clap cloA chiA t s =
     let env = burst_of t ⊕ c0·55 ⊗ fade t c0·12 in
     let w = bi s.rng in
@@ -71,7 +71,7 @@ eight08_clap cloA chiA t s =
     }
 
 -- `above` is (midi - 41) as f32
-unfoldable pub eight08_tom : Float → Float → Float → Eight08State → Eight08Out
+unfoldable pub eight08_tom : Float → Float → Float → Eight08State → Out Eight08State
 eight08_tom above srf t s =
     let base = c90 ⊕ c26 ⊗ above in
     let ft = base ⊗ (c1 ⊕ c0·6 ⊗ fade t c0·02) in
@@ -82,7 +82,7 @@ eight08_tom above srf t s =
       state = record { hlp = s.hlp; clp = s.clp; chp = s.chp; phase = phase; rng = s.rng };
     }
 
-unfoldable pub eight08_unmapped : Float → Eight08State → Eight08Out
+unfoldable pub eight08_unmapped : Float → Eight08State → Out Eight08State
 eight08_unmapped t s = record {
   sample = bi s.rng ⊗ fade t c0·08;
   state = record { hlp = s.hlp; clp = s.clp; chp = s.chp; phase = s.phase; rng = drawn s.rng };

@@ -9,12 +9,12 @@ use Rattle.kit_parts.specs.Parts.{coefficient}
 use Rattle.drum.specs.declared.Drum.{Drum}
 use Rattle.drum.specs.declared.Drum.TheVariants.{Kick, Snare, Rim, Clap, ClosedHat, OpenHat, Tom, Cowbell, Crash, Ride, Unmapped}
 use Rattle.kit_808.specs.declared.drums.Eight08State.{Eight08State}
-use Rattle.kit_808.specs.declared.drums.Eight08Out.{Eight08Out}
+use Rattle.osc.specs.declared.Out.{Out}
 use Rattle.kit_808.specs.Drums.{eight08_kick, eight08_snare, eight08_rim, eight08_clap, eight08_tom, eight08_unmapped}
 use Rattle.kit_808.specs.Metal.{eight08_closed_hat, eight08_open_hat, eight08_cowbell, eight08_crash, eight08_ride}
 
 -- at the time t
-unfoldable pub eight08_drum : Drum → Float → Float → Float → Float → Float → Eight08State → Eight08Out
+unfoldable pub eight08_drum : Drum → Float → Float → Float → Float → Float → Eight08State → Out Eight08State
 eight08_drum Kick srf a6000 cloA chiA t s = eight08_kick srf t s
 eight08_drum Snare srf a6000 cloA chiA t s = eight08_snare a6000 t s
 eight08_drum Rim srf a6000 cloA chiA t s = eight08_rim t s
@@ -28,7 +28,7 @@ eight08_drum Ride srf a6000 cloA chiA t s = eight08_ride a6000 t s
 eight08_drum Unmapped srf a6000 cloA chiA t s = eight08_unmapped t s
 
 -- frame i
-abbrev pub eight08_at : Drum → Float → Float → Float → Float → ℕ → Eight08State → Eight08Out
+abbrev pub eight08_at : Drum → Float → Float → Float → Float → ℕ → Eight08State → Out Eight08State
 eight08_at drum srf a6000 cloA chiA i s = eight08_drum drum srf a6000 cloA chiA (seconds srf i) s
 
 abbrev pub eight08_start : Rng → Eight08State

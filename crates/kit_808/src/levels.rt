@@ -17,21 +17,6 @@ fn clap_level(t: f32, x: f32) -> f32
     burst(t) + 0.55 * x
 }
 
-// A clap's levels over those of its tail.
-fn clap_over(tail: &[f32; 64], srf: f32, from: usize, end: usize, a: &mut [f32; 64])
-    requires from_le_end { (from ≤ end) × (end ≤ from + 64) × (end ≤ 16777216) }
-    requires a_len { length a.old ≡ 64 }
-    ensures { (length a.new ≡ 64)
-        × Tabled (λ i. eight08_clap_level (seconds srf i) (get_or tail.now (i - from) nan)) nan from end a.new }
-{
-    let mut i = from;
-    while i < end {
-        let t = osc::frame_time(i, srf);
-        a[i - from] = clap_level(t, tail[i - from]);
-        i += 1;
-    }
-}
-
 fn clap_levels(srf: f32, from: usize, end: usize, a: &mut [f32; 64])
     requires from_le_end { (from ≤ end) × (end ≤ from + 64) × (end ≤ 16777216) }
     requires a_len { length a.old ≡ 64 }
@@ -39,7 +24,7 @@ fn clap_levels(srf: f32, from: usize, end: usize, a: &mut [f32; 64])
 {
     let mut tail = [0.0f32; 64];
     decays_before(srf, 0.12, from, end, &mut tail);
-    clap_over(&tail, srf, from, end, a);
+    kit_parts::at_times(srf, from, end, a, |i, t| clap_level(t, tail[i - from]));
 }
 
 // In the frames from `from` on and before `end`.

@@ -1,7 +1,6 @@
 -- A frame by its level is the definition's, and which drums have none. Assumes nothing.
 use Prim.Native.Nat.{ℕ}
 use mathlib.Core.Path.{◌≡◌, refl}
-use mathlib.Core.List.{List, [], ◌∷◌}
 use lib.Ieee.{Float, lt, of_bits}
 use Rattle.ieee.specs.Numbers.{c0, c0·018}
 use Rattle.dsp.specs.Kernels.{exp_of}
@@ -18,7 +17,7 @@ use Rattle.kit_acoustic.specs.Clap.{burst_of, acoustic_clap}
 use Rattle.kit_acoustic.specs.Cymbals.{acoustic_closed_hat, acoustic_open_hat}
 use Rattle.kit_acoustic.specs.Acoustic.{acoustic_drum, acoustic_at}
 use Rattle.kit_acoustic.specs.Block.{acoustic_level, acoustic_by, burst_argument, heard_of, clap_mix, acoustic_clap_level, open_hat_mix, acoustic_open_hat_level, acoustic_block_level}
-use Rattle.kit_acoustic.specs.Block.{acoustic_clap_by, acoustic_closed_hat_by, acoustic_open_hat_by, acoustic_unmapped_by, acoustic_block_by}
+use Rattle.kit_acoustic.specs.Block.{acoustic_clap_by, acoustic_hat_by, acoustic_unmapped_by, acoustic_block_by}
 
 pub burst_heard : (t d : Float) → heard_of t d (exp_of (burst_argument t d)) ≡ burst_of t d
 unfolding heard_of burst_argument burst_of
@@ -69,7 +68,7 @@ cowbell_level srf i = refl
 
 pub by_block_level : (drum : Drum) (k : Coefficients) (srf : Float) (i : ℕ) (s : AcousticState) →
     acoustic_block_by drum (acoustic_block_level drum (seconds srf i)) k srf i s ≡ acoustic_at drum k srf i s
-unfolding acoustic_block_by acoustic_block_level acoustic_drum acoustic_cowbell acoustic_clap_by acoustic_closed_hat_by acoustic_open_hat_by acoustic_unmapped_by
+unfolding acoustic_block_by acoustic_block_level acoustic_drum acoustic_cowbell acoustic_clap_by acoustic_hat_by acoustic_unmapped_by
     acoustic_clap_level clap_mix acoustic_open_hat_level open_hat_mix acoustic_clap acoustic_closed_hat acoustic_open_hat acoustic_unmapped
 by_block_level Kick k srf i s = refl
 by_block_level Snare k srf i s = refl
@@ -85,7 +84,7 @@ by_block_level Unmapped k srf i s = refl
 
 -- likewise by the level that the cowbell has not
 pub by_level : (drum : Drum) (k : Coefficients) (srf : Float) (i : ℕ) (s : AcousticState) → acoustic_by drum (acoustic_level drum (seconds srf i)) k srf i s ≡ acoustic_at drum k srf i s
-unfolding acoustic_by acoustic_level acoustic_drum acoustic_clap_by acoustic_closed_hat_by acoustic_open_hat_by acoustic_unmapped_by
+unfolding acoustic_by acoustic_level acoustic_drum acoustic_clap_by acoustic_hat_by acoustic_unmapped_by
     acoustic_clap_level clap_mix acoustic_open_hat_level open_hat_mix acoustic_clap acoustic_closed_hat acoustic_open_hat acoustic_unmapped
 by_level Kick k srf i s = refl
 by_level Snare k srf i s = refl

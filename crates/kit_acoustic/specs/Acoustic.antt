@@ -10,7 +10,7 @@ use Rattle.drum.specs.declared.Drum.{Drum}
 use Rattle.drum.specs.declared.Drum.TheVariants.{Kick, Snare, Rim, Clap, ClosedHat, OpenHat, Tom, Cowbell, Crash, Ride, Unmapped}
 use Rattle.kit_acoustic.specs.declared.drums.Coefficients.{Coefficients}
 use Rattle.kit_acoustic.specs.declared.drums.AcousticState.{AcousticState}
-use Rattle.kit_acoustic.specs.declared.drums.AcousticOut.{AcousticOut}
+use Rattle.osc.specs.declared.Out.{Out}
 use Rattle.kit_acoustic.specs.Drums.{acoustic_kick, acoustic_snare, acoustic_rim, acoustic_tom, acoustic_cowbell, acoustic_unmapped}
 use Rattle.kit_acoustic.specs.Clap.{acoustic_clap}
 use Rattle.kit_acoustic.specs.Cymbals.{acoustic_closed_hat, acoustic_open_hat, acoustic_crash, acoustic_ride}
@@ -35,7 +35,7 @@ coefficients_of srf =
     }
 
 -- at the time t
-unfoldable pub acoustic_drum : Drum → Coefficients → Float → Float → AcousticState → AcousticOut
+unfoldable pub acoustic_drum : Drum → Coefficients → Float → Float → AcousticState → Out AcousticState
 acoustic_drum Kick k srf t s = acoustic_kick k srf t s
 acoustic_drum Snare k srf t s = acoustic_snare k t s
 acoustic_drum Rim k srf t s = acoustic_rim k t s
@@ -49,7 +49,7 @@ acoustic_drum Ride k srf t s = acoustic_ride k t s
 acoustic_drum Unmapped k srf t s = acoustic_unmapped k t s
 
 -- frame i
-abbrev pub acoustic_at : Drum → Coefficients → Float → ℕ → AcousticState → AcousticOut
+abbrev pub acoustic_at : Drum → Coefficients → Float → ℕ → AcousticState → Out AcousticState
 acoustic_at drum k srf i s = acoustic_drum drum k srf (seconds srf i) s
 
 abbrev pub acoustic_start : Rng → AcousticState

@@ -12,7 +12,7 @@ use Rattle.drum.specs.declared.Drum.{Drum}
 use Rattle.drum.specs.declared.Drum.TheVariants.{Kick, Snare, Rim, Clap, ClosedHat, OpenHat, Tom, Cowbell, Crash, Ride, Unmapped}
 use Rattle.kit_acoustic.specs.declared.drums.Coefficients.{Coefficients}
 use Rattle.kit_acoustic.specs.declared.drums.AcousticState.{AcousticState}
-use Rattle.kit_acoustic.specs.declared.drums.AcousticOut.{AcousticOut}
+use Rattle.osc.specs.declared.Out.{Out}
 use Rattle.kit_acoustic.specs.Drums.{acoustic_kick, acoustic_snare, acoustic_rim, acoustic_tom, acoustic_cowbell}
 use Rattle.kit_acoustic.specs.Clap.{burst_of}
 use Rattle.kit_acoustic.specs.Cymbals.{acoustic_crash, acoustic_ride}
@@ -55,7 +55,7 @@ acoustic_block_level Unmapped t = fade t c0·08
 
 -- ---- frames by their levels
 
-unfoldable pub acoustic_clap_by : Float → Coefficients → AcousticState → AcousticOut
+unfoldable pub acoustic_clap_by : Float → Coefficients → AcousticState → Out AcousticState
 acoustic_clap_by level k s =
     let w = bi s.rng in
     let lpa = filtered s.lpa k.a2500 w in
@@ -65,29 +65,25 @@ acoustic_clap_by level k s =
       state = record { lpa = lpa; lpb = s.lpb; hpa = hpa; phase = s.phase; phase2 = s.phase2; rng = drawn s.rng };
     }
 
-unfoldable pub acoustic_closed_hat_by : Float → Coefficients → AcousticState → AcousticOut
-acoustic_closed_hat_by level k s =
+-- a hat: the noise above a filter and the shimmer between two, each by its share
+unfoldable pub acoustic_hat_by : Float → Float → Float → Coefficients → AcousticState → Out AcousticState
+acoustic_hat_by hiss shine level k s =
     let w = bi s.rng in
     let lpa = filtered s.lpa k.a11000 w in
     let hpa = filtered s.hpa k.a8000 lpa in
     let lpb = filtered s.lpb k.a6500 w in
     record {
-      sample = (c0·6 ⊗ (w ⊖ lpb) ⊕ c0·55 ⊗ (lpa ⊖ hpa)) ⊗ level;
+      sample = (hiss ⊗ (w ⊖ lpb) ⊕ shine ⊗ (lpa ⊖ hpa)) ⊗ level;
       state = record { lpa = lpa; lpb = lpb; hpa = hpa; phase = s.phase; phase2 = s.phase2; rng = drawn s.rng };
     }
 
-unfoldable pub acoustic_open_hat_by : Float → Coefficients → AcousticState → AcousticOut
-acoustic_open_hat_by level k s =
-    let w = bi s.rng in
-    let lpa = filtered s.lpa k.a11000 w in
-    let hpa = filtered s.hpa k.a8000 lpa in
-    let lpb = filtered s.lpb k.a6500 w in
-    record {
-      sample = (c0·55 ⊗ (w ⊖ lpb) ⊕ c0·6 ⊗ (lpa ⊖ hpa)) ⊗ level;
-      state = record { lpa = lpa; lpb = lpb; hpa = hpa; phase = s.phase; phase2 = s.phase2; rng = drawn s.rng };
-    }
+abbrev pub acoustic_closed_hat_by : Float → Coefficients → AcousticState → Out AcousticState
+acoustic_closed_hat_by = acoustic_hat_by c0·6 c0·55
 
-unfoldable pub acoustic_unmapped_by : Float → Coefficients → AcousticState → AcousticOut
+abbrev pub acoustic_open_hat_by : Float → Coefficients → AcousticState → Out AcousticState
+acoustic_open_hat_by = acoustic_hat_by c0·55 c0·6
+
+unfoldable pub acoustic_unmapped_by : Float → Coefficients → AcousticState → Out AcousticState
 acoustic_unmapped_by level k s =
     let w = bi s.rng in
     let lpa = filtered s.lpa k.a4000 w in
@@ -97,7 +93,7 @@ acoustic_unmapped_by level k s =
     }
 
 -- frame i, whose level is given
-unfoldable pub acoustic_block_by : Drum → Float → Coefficients → Float → ℕ → AcousticState → AcousticOut
+unfoldable pub acoustic_block_by : Drum → Float → Coefficients → Float → ℕ → AcousticState → Out AcousticState
 acoustic_block_by Kick level k srf i s = acoustic_kick k srf (seconds srf i) s
 acoustic_block_by Snare level k srf i s = acoustic_snare k (seconds srf i) s
 acoustic_block_by Rim level k srf i s = acoustic_rim k (seconds srf i) s
@@ -125,7 +121,7 @@ acoustic_level Ride t = c0
 acoustic_level Unmapped t = fade t c0·08
 
 -- a frame by that level: the cowbell by itself
-unfoldable pub acoustic_by : Drum → Float → Coefficients → Float → ℕ → AcousticState → AcousticOut
+unfoldable pub acoustic_by : Drum → Float → Coefficients → Float → ℕ → AcousticState → Out AcousticState
 acoustic_by Kick level k srf i s = acoustic_kick k srf (seconds srf i) s
 acoustic_by Snare level k srf i s = acoustic_snare k (seconds srf i) s
 acoustic_by Rim level k srf i s = acoustic_rim k (seconds srf i) s

@@ -9,13 +9,13 @@ use Rattle.kit_parts.specs.Numbers.{c0·009, c0·027, c0·1, c0·35}
 use Rattle.kit_parts.specs.Parts.{fade, filtered, bi, drawn}
 use Rattle.kit_acoustic.specs.declared.drums.Coefficients.{Coefficients}
 use Rattle.kit_acoustic.specs.declared.drums.AcousticState.{AcousticState}
-use Rattle.kit_acoustic.specs.declared.drums.AcousticOut.{AcousticOut}
+use Rattle.osc.specs.declared.Out.{Out}
 
 -- if t >= d { dsp::exp(-(t - d) / 0.009) } else { 0.0 }
 unfoldable pub burst_of : Float → Float → Float
 burst_of t d = cond (le d t) (exp_of (neg (t ⊖ d) ⊘ c0·009)) c0
 
-unfoldable pub acoustic_clap : Coefficients → Float → AcousticState → AcousticOut
+unfoldable pub acoustic_clap : Coefficients → Float → AcousticState → Out AcousticState
 acoustic_clap k t s =
     let w = bi s.rng in
     let lpa = filtered s.lpa k.a2500 w in

@@ -6,9 +6,9 @@ use Rattle.kit_parts.specs.Numbers.{c0·032, c0·06, c0·08, c0·22, c0·32, c0�
 use Rattle.kit_parts.specs.Parts.{tone, fade, filtered, bi, drawn}
 use Rattle.kit_acoustic.specs.declared.drums.Coefficients.{Coefficients}
 use Rattle.kit_acoustic.specs.declared.drums.AcousticState.{AcousticState}
-use Rattle.kit_acoustic.specs.declared.drums.AcousticOut.{AcousticOut}
+use Rattle.osc.specs.declared.Out.{Out}
 
-unfoldable pub acoustic_closed_hat : Coefficients → Float → AcousticState → AcousticOut
+unfoldable pub acoustic_closed_hat : Coefficients → Float → AcousticState → Out AcousticState
 acoustic_closed_hat k t s =
     let w = bi s.rng in
     let lpa = filtered s.lpa k.a11000 w in
@@ -20,7 +20,7 @@ acoustic_closed_hat k t s =
       state = record { lpa = lpa; lpb = lpb; hpa = hpa; phase = s.phase; phase2 = s.phase2; rng = drawn s.rng };
     }
 
-unfoldable pub acoustic_open_hat : Coefficients → Float → AcousticState → AcousticOut
+unfoldable pub acoustic_open_hat : Coefficients → Float → AcousticState → Out AcousticState
 acoustic_open_hat k t s =
     let w = bi s.rng in
     let lpa = filtered s.lpa k.a11000 w in
@@ -33,7 +33,7 @@ acoustic_open_hat k t s =
       state = record { lpa = lpa; lpb = lpb; hpa = hpa; phase = s.phase; phase2 = s.phase2; rng = drawn s.rng };
     }
 
-unfoldable pub acoustic_crash : Coefficients → Float → AcousticState → AcousticOut
+unfoldable pub acoustic_crash : Coefficients → Float → AcousticState → Out AcousticState
 acoustic_crash k t s =
     let w = bi s.rng in
     let lpa = filtered s.lpa k.a2500 w in
@@ -48,7 +48,7 @@ acoustic_crash k t s =
       state = record { lpa = lpa; lpb = lpb; hpa = hpa; phase = s.phase; phase2 = s.phase2; rng = drawn s.rng };
     }
 
-unfoldable pub acoustic_ride : Coefficients → Float → AcousticState → AcousticOut
+unfoldable pub acoustic_ride : Coefficients → Float → AcousticState → Out AcousticState
 acoustic_ride k t s =
     let w = bi s.rng in
     let lpa = filtered s.lpa k.a3000 w in

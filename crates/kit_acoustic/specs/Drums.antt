@@ -13,7 +13,7 @@ use Rattle.kit_parts.specs.Numbers.{c1·59, c24, c48, c140, c185, c330, c420, c5
 use Rattle.kit_parts.specs.Parts.{tone, fade, filtered, turned, bi, drawn}
 use Rattle.kit_acoustic.specs.declared.drums.Coefficients.{Coefficients}
 use Rattle.kit_acoustic.specs.declared.drums.AcousticState.{AcousticState}
-use Rattle.kit_acoustic.specs.declared.drums.AcousticOut.{AcousticOut}
+use Rattle.osc.specs.declared.Out.{Out}
 use Rattle.kit_acoustic.specs.declared.drums.Knock.{Knock}
 
 -- "a beater knock": whether it sounds at the time t
@@ -30,7 +30,7 @@ acoustic_knock k t past rng =
     record { click = (w ⊖ lpa) ⊗ c0·5 ⊗ fade t c0·007 ⊕ c0·28 ⊗ tick; lpa = lpa; rng = drawn rng })
     (record { click = c0; lpa = past; rng = rng })
 
-unfoldable pub acoustic_kick : Coefficients → Float → Float → AcousticState → AcousticOut
+unfoldable pub acoustic_kick : Coefficients → Float → Float → AcousticState → Out AcousticState
 acoustic_kick k srf t s =
     let fk = c48 ⊕ c140 ⊗ fade t c0·028 in
     let phase = turned s.phase fk srf in
@@ -41,7 +41,7 @@ acoustic_kick k srf t s =
       state = record { lpa = knock.lpa; lpb = s.lpb; hpa = s.hpa; phase = phase; phase2 = s.phase2; rng = knock.rng };
     }
 
-unfoldable pub acoustic_snare : Coefficients → Float → AcousticState → AcousticOut
+unfoldable pub acoustic_snare : Coefficients → Float → AcousticState → Out AcousticState
 acoustic_snare k t s =
     let w = bi s.rng in
     let m1 = tone c185 t ⊗ c0·48 ⊗ fade t c0·1 in
@@ -56,7 +56,7 @@ acoustic_snare k t s =
       state = record { lpa = lpa; lpb = lpb; hpa = hpa; phase = s.phase; phase2 = s.phase2; rng = drawn s.rng };
     }
 
-unfoldable pub acoustic_rim : Coefficients → Float → AcousticState → AcousticOut
+unfoldable pub acoustic_rim : Coefficients → Float → AcousticState → Out AcousticState
 acoustic_rim k t s =
     let w = bi s.rng in
     let lpa = filtered s.lpa k.a4000 w in
@@ -69,7 +69,7 @@ acoustic_rim k t s =
     }
 
 -- `above` is (midi - 41) as f32
-unfoldable pub acoustic_tom : Float → Coefficients → Float → Float → AcousticState → AcousticOut
+unfoldable pub acoustic_tom : Float → Coefficients → Float → Float → AcousticState → Out AcousticState
 acoustic_tom above k srf t s =
     let base = c80 ⊕ c24 ⊗ above in
     let ft = base ⊗ (c1 ⊖ c0·12 ⊗ min_of (t ⊘ c0·25) c1) in
@@ -85,10 +85,10 @@ acoustic_tom above k srf t s =
       state = record { lpa = lpa; lpb = s.lpb; hpa = s.hpa; phase = phase; phase2 = phase2; rng = drawn s.rng };
     }
 
-unfoldable pub acoustic_cowbell : Float → AcousticState → AcousticOut
+unfoldable pub acoustic_cowbell : Float → AcousticState → Out AcousticState
 acoustic_cowbell t s = record { sample = cowbell_of c540 t; state = s }
 
-unfoldable pub acoustic_unmapped : Coefficients → Float → AcousticState → AcousticOut
+unfoldable pub acoustic_unmapped : Coefficients → Float → AcousticState → Out AcousticState
 acoustic_unmapped k t s =
     let w = bi s.rng in
     let lpa = filtered s.lpa k.a4000 w in

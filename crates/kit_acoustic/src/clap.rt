@@ -1,14 +1,16 @@
 // The clap: noise in a band, in four bursts 9 milliseconds apart, and a tail. Its level needs only the
 // frames' times.
-ghost use Rattle.std.specs.Prelude.{◌≡◌, ◌+◌, ◌-◌, ◌≤◌, length, get_or};
+ghost use Rattle.std.specs.Prelude.{◌≡◌, ◌+◌, ◌-◌, ◌≤◌, length};
 ghost use Rattle.std.specs.Float.{nan};
 ghost use Rattle.blocks.proofs.Block.{Tabled};
 ghost use Rattle.osc.specs.Phase.{seconds};
 ghost use Rattle.kit_acoustic.specs.Clap.{burst_of};
 ghost use Rattle.kit_acoustic.specs.Block.{burst_argument, heard_of, clap_mix, acoustic_clap_level, acoustic_clap_by};
 
-use crate::drums::{AcousticOut, AcousticState, Coefficients};
-use frame_block::decays_before;
+use crate::drums::{AcousticState, Coefficients};
+use frame_block::{decays_before, table};
+use kit_parts::at_times;
+use osc::Out;
 
 // A burst that starts at d.
 fn burst(t: f32, d: f32) -> f32
@@ -27,19 +29,6 @@ fn burst_argument(t: f32, d: f32) -> f32
     -(t - d) / 0.009
 }
 
-fn burst_arguments(srf: f32, d: f32, from: usize, end: usize, a: &mut [f32; 64])
-    requires from_le_end { (from ≤ end) × (end ≤ from + 64) × (end ≤ 16777216) }
-    requires a_len { length a.old ≡ 64 }
-    ensures { (length a.new ≡ 64) × Tabled (λ i. burst_argument (seconds srf i) d) nan from end a.new }
-{
-    let mut i = from;
-    while i < end {
-        let x = burst_argument(osc::frame_time(i, srf), d);
-        a[i - from] = x;
-        i += 1;
-    }
-}
-
 // A burst by its exponential e, which is not heard before d.
 fn heard(t: f32, d: f32, e: f32) -> f32
     ensures { result ≡ heard_of t d e }
@@ -47,20 +36,7 @@ fn heard(t: f32, d: f32, e: f32) -> f32
     if t >= d { e } else { 0.0 }
 }
 
-fn bursts_heard(srf: f32, d: f32, from: usize, end: usize, e: &[f32; 64], a: &mut [f32; 64])
-    requires from_le_end { (from ≤ end) × (end ≤ from + 64) × (end ≤ 16777216) }
-    requires a_len { length a.old ≡ 64 }
-    ensures { (length a.new ≡ 64)
-        × Tabled (λ i. heard_of (seconds srf i) d (get_or e.now (i - from) nan)) nan from end a.new }
-{
-    let mut i = from;
-    while i < end {
-        let x = heard(osc::frame_time(i, srf), d, e[i - from]);
-        a[i - from] = x;
-        i += 1;
-    }
-}
-
+// The exponentials of a whole block, and of them those that are heard.
 fn bursts_whole(srf: f32, d: f32, from: usize, end: usize, a: &mut [f32; 64])
     requires from_le_end { (from ≤ end) × (end ≤ from + 64) × (end ≤ 16777216) }
     requires a_len { length a.old ≡ 64 }
@@ -68,22 +44,9 @@ fn bursts_whole(srf: f32, d: f32, from: usize, end: usize, a: &mut [f32; 64])
 {
     let mut x = [0.0f32; 64];
     let mut e = [0.0f32; 64];
-    burst_arguments(srf, d, from, end, &mut x);
+    at_times(srf, from, end, &mut x, |_, t| burst_argument(t, d));
     frame_block::exps_before(&x, end - from, &mut e);
-    bursts_heard(srf, d, from, end, &e, a);
-}
-
-fn bursts_each(srf: f32, d: f32, from: usize, end: usize, a: &mut [f32; 64])
-    requires from_le_end { (from ≤ end) × (end ≤ from + 64) × (end ≤ 16777216) }
-    requires a_len { length a.old ≡ 64 }
-    ensures { (length a.new ≡ 64) × Tabled (λ i. burst_of (seconds srf i) d) nan from end a.new }
-{
-    let mut i = from;
-    while i < end {
-        let x = burst(osc::frame_time(i, srf), d);
-        a[i - from] = x;
-        i += 1;
-    }
+    at_times(srf, from, end, a, |i, t| heard(t, d, e[i - from]));
 }
 
 // A burst in the frames of a block. Before it starts there is nothing to work out.
@@ -95,7 +58,7 @@ fn bursts(srf: f32, d: f32, from: usize, end: usize, a: &mut [f32; 64])
     if osc::frame_time(from, srf) >= d {
         bursts_whole(srf, d, from, end, a);
     } else {
-        bursts_each(srf, d, from, end, a);
+        at_times(srf, from, end, a, |_, t| burst(t, d));
     }
 }
 
@@ -103,26 +66,6 @@ fn clap_mix(b1: f32, b2: f32, b3: f32, b4: f32, tail: f32) -> f32
     ensures { result ≡ clap_mix b1 b2 b3 b4 tail }
 {
     0.90 * float::min_f32(b1 + b2 + b3 + b4, 1.0) + 0.35 * tail
-}
-
-fn clap_mixes(
-    b1: &[f32; 64],
-    b2: &[f32; 64],
-    b3: &[f32; 64],
-    b4: &[f32; 64],
-    tail: &[f32; 64],
-    a: &mut [f32; 64],
-)
-    requires { length a.old ≡ 64 }
-    ensures { (length a.new ≡ 64)
-        × Tabled (λ k. clap_mix (get_or b1.now k nan) (get_or b2.now k nan) (get_or b3.now k nan)
-        (get_or b4.now k nan) (get_or tail.now k nan)) nan 0 64 a.new }
-{
-    let mut i = 0usize;
-    while i < 64 {
-        a[i] = clap_mix(b1[i], b2[i], b3[i], b4[i], tail[i]);
-        i += 1;
-    }
 }
 
 // In the frames from `from` on and before `end`.
@@ -141,27 +84,23 @@ pub fn clap_levels(srf: f32, from: usize, end: usize, a: &mut [f32; 64])
     bursts(srf, 0.018, from, end, &mut b3);
     bursts(srf, 0.027, from, end, &mut b4);
     decays_before(srf, 0.10, from, end, &mut tail);
-    clap_mixes(&b1, &b2, &b3, &b4, &tail, a);
+    table(0, 64, a, |i| clap_mix(b1[i], b2[i], b3[i], b4[i], tail[i]));
 }
 
-pub fn clap(level: f32, k: Coefficients, s: AcousticState) -> AcousticOut
+pub fn clap(level: f32, k: Coefficients, s: AcousticState) -> Out<AcousticState>
     ensures { result ≡ acoustic_clap_by level k s }
 {
-    let rng = s.rng;
-    let w = rng.bi();
-    let next = w.rng;
+    let w = s.rng.bi();
     let lpa = s.lpa + k.a2500 * (w.value - s.lpa);
     let hpa = s.hpa + k.a900 * (lpa - s.hpa);
     let band = lpa - hpa;
-    AcousticOut {
+    Out {
         sample: band * level,
         state: AcousticState {
             lpa,
-            lpb: s.lpb,
             hpa,
-            phase: s.phase,
-            phase2: s.phase2,
-            rng: next,
+            rng: w.rng,
+            ..s
         },
     }
 }

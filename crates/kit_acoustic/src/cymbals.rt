@@ -1,63 +1,43 @@
 // Hats, crash and ride: noise in three bands, and the metal's partials.
 ghost use Rattle.std.specs.Prelude.{◌≡◌};
 ghost use Rattle.kit_acoustic.specs.Cymbals.{acoustic_crash, acoustic_ride};
-ghost use Rattle.kit_acoustic.specs.Block.{acoustic_closed_hat_by, acoustic_open_hat_by};
+ghost use Rattle.kit_acoustic.specs.Block.{acoustic_hat_by};
 
-use crate::drums::{AcousticOut, AcousticState, Coefficients};
+use crate::drums::{AcousticState, Coefficients};
+use osc::Out;
 
-pub fn closed_hat(level: f32, k: Coefficients, s: AcousticState) -> AcousticOut
-    ensures { result ≡ acoustic_closed_hat_by level k s }
+// Both hats: the noise above a filter and the shimmer between two, each by its share.
+pub fn hat(
+    hiss: f32,
+    shine: f32,
+    level: f32,
+    k: Coefficients,
+    s: AcousticState,
+) -> Out<AcousticState>
+    ensures { result ≡ acoustic_hat_by hiss shine level k s }
 {
-    let rng = s.rng;
-    let w = rng.bi();
-    let next = w.rng;
+    let w = s.rng.bi();
     let lpa = s.lpa + k.a11000 * (w.value - s.lpa);
     let hpa = s.hpa + k.a8000 * (lpa - s.hpa);
     let shimmer = lpa - hpa;
     let lpb = s.lpb + k.a6500 * (w.value - s.lpb);
-    AcousticOut {
-        sample: (0.60 * (w.value - lpb) + 0.55 * shimmer) * level,
+    Out {
+        sample: (hiss * (w.value - lpb) + shine * shimmer) * level,
         state: AcousticState {
             lpa,
             lpb,
             hpa,
-            phase: s.phase,
-            phase2: s.phase2,
-            rng: next,
-        },
-    }
-}
-
-pub fn open_hat(level: f32, k: Coefficients, s: AcousticState) -> AcousticOut
-    ensures { result ≡ acoustic_open_hat_by level k s }
-{
-    let rng = s.rng;
-    let w = rng.bi();
-    let next = w.rng;
-    let lpa = s.lpa + k.a11000 * (w.value - s.lpa);
-    let hpa = s.hpa + k.a8000 * (lpa - s.hpa);
-    let shimmer = lpa - hpa;
-    let lpb = s.lpb + k.a6500 * (w.value - s.lpb);
-    AcousticOut {
-        sample: (0.55 * (w.value - lpb) + 0.60 * shimmer) * level,
-        state: AcousticState {
-            lpa,
-            lpb,
-            hpa,
-            phase: s.phase,
-            phase2: s.phase2,
-            rng: next,
+            rng: w.rng,
+            ..s
         },
     }
 }
 
 // A wash, a shine that wavers 6 times a second, and the first clash.
-pub fn crash(k: Coefficients, t: f32, s: AcousticState) -> AcousticOut
+pub fn crash(k: Coefficients, t: f32, s: AcousticState) -> Out<AcousticState>
     ensures { result ≡ acoustic_crash k t s }
 {
-    let rng = s.rng;
-    let w = rng.bi();
-    let next = w.rng;
+    let w = s.rng.bi();
     let lpa = s.lpa + k.a2500 * (w.value - s.lpa);
     let wash = (w.value - lpa) * 0.60 * dsp::exp(-t / 0.90);
     let lpb = s.lpb + k.a12000 * (w.value - s.lpb);
@@ -68,26 +48,23 @@ pub fn crash(k: Coefficients, t: f32, s: AcousticState) -> AcousticOut
         + dsp::sin(dsp::TAU * 5240.0 * t)
         + dsp::sin(dsp::TAU * 8130.0 * t);
     let clash = partials * 0.06 * dsp::exp(-t / 0.22);
-    AcousticOut {
+    Out {
         sample: wash + shine + clash,
         state: AcousticState {
             lpa,
             lpb,
             hpa,
-            phase: s.phase,
-            phase2: s.phase2,
-            rng: next,
+            rng: w.rng,
+            ..s
         },
     }
 }
 
 // A wash, a shine, and the bell's ping.
-pub fn ride(k: Coefficients, t: f32, s: AcousticState) -> AcousticOut
+pub fn ride(k: Coefficients, t: f32, s: AcousticState) -> Out<AcousticState>
     ensures { result ≡ acoustic_ride k t s }
 {
-    let rng = s.rng;
-    let w = rng.bi();
-    let next = w.rng;
+    let w = s.rng.bi();
     let lpa = s.lpa + k.a3000 * (w.value - s.lpa);
     let wash = (w.value - lpa) * 0.45 * dsp::exp(-t / 0.55);
     let lpb = s.lpb + k.a12000 * (w.value - s.lpb);
@@ -97,15 +74,14 @@ pub fn ride(k: Coefficients, t: f32, s: AcousticState) -> AcousticOut
         + dsp::sin(dsp::TAU * 3170.0 * t) * 0.3
         + dsp::sin(dsp::TAU * 4200.0 * t) * 0.2;
     let ping = partials * dsp::exp(-t / 0.30);
-    AcousticOut {
+    Out {
         sample: 0.50 * ping + wash + shine,
         state: AcousticState {
             lpa,
             lpb,
             hpa,
-            phase: s.phase,
-            phase2: s.phase2,
-            rng: next,
+            rng: w.rng,
+            ..s
         },
     }
 }

@@ -4,6 +4,7 @@ ghost use Rattle.std.specs.Prelude.{◌≡◌};
 ghost use Rattle.kit_acoustic.specs.Drums.{acoustic_knock, acoustic_kick, acoustic_snare, acoustic_rim, acoustic_tom};
 ghost use Rattle.kit_acoustic.specs.Block.{acoustic_unmapped_by};
 
+use osc::Out;
 use rng::Rng;
 
 // A one-pole filter's step, by its corner frequency in hertz.
@@ -34,12 +35,6 @@ pub struct AcousticState {
     pub rng: Rng,
 }
 
-#[derive(Clone, Copy)]
-pub struct AcousticOut {
-    pub sample: f32,
-    pub state: AcousticState,
-}
-
 // What a kick's beater adds, the filter's memory and the generator after it.
 #[derive(Clone, Copy)]
 pub struct Knock {
@@ -54,13 +49,12 @@ fn beater_knock(k: Coefficients, t: f32, past: f32, rng: Rng) -> Knock
 {
     if t < 0.018 {
         let w = rng.bi();
-        let next = w.rng;
         let lpa = past + k.a3000 * (w.value - past);
         let tick = dsp::sin(dsp::TAU * 2600.0 * t) * dsp::exp(-t / 0.004);
         return Knock {
             click: (w.value - lpa) * 0.50 * dsp::exp(-t / 0.007) + 0.28 * tick,
             lpa,
-            rng: next,
+            rng: w.rng,
         };
     }
     Knock {
@@ -71,35 +65,29 @@ fn beater_knock(k: Coefficients, t: f32, past: f32, rng: Rng) -> Knock
 }
 
 // A thump whose pitch falls fast, and the knock.
-pub fn kick(k: Coefficients, srf: f32, t: f32, s: AcousticState) -> AcousticOut
+pub fn kick(k: Coefficients, srf: f32, t: f32, s: AcousticState) -> Out<AcousticState>
     ensures { result ≡ acoustic_kick k srf t s }
 {
     let fk = 48.0 + 140.0 * dsp::exp(-t / 0.028);
     let phase = osc::wrap(s.phase + fk / srf);
     let body = dsp::sin(dsp::TAU * phase) * dsp::exp(-t / 0.16);
-    let rng = s.rng;
-    let knock = beater_knock(k, t, s.lpa, rng);
-    let next = knock.rng;
-    AcousticOut {
+    let knock = beater_knock(k, t, s.lpa, s.rng);
+    Out {
         sample: 0.90 * body + knock.click,
         state: AcousticState {
             lpa: knock.lpa,
-            lpb: s.lpb,
-            hpa: s.hpa,
             phase,
-            phase2: s.phase2,
-            rng: next,
+            rng: knock.rng,
+            ..s
         },
     }
 }
 
 // A head tuned to two modes, a crack and the wires' buzz.
-pub fn snare(k: Coefficients, t: f32, s: AcousticState) -> AcousticOut
+pub fn snare(k: Coefficients, t: f32, s: AcousticState) -> Out<AcousticState>
     ensures { result ≡ acoustic_snare k t s }
 {
-    let rng = s.rng;
-    let w = rng.bi();
-    let next = w.rng;
+    let w = s.rng.bi();
     let m1 = dsp::sin(dsp::TAU * 185.0 * t) * 0.48 * dsp::exp(-t / 0.10);
     let m2 = dsp::sin(dsp::TAU * 330.0 * t) * 0.26 * dsp::exp(-t / 0.07);
     let lpa = s.lpa + k.a3500 * (w.value - s.lpa);
@@ -107,45 +95,39 @@ pub fn snare(k: Coefficients, t: f32, s: AcousticState) -> AcousticOut
     let lpb = s.lpb + k.a2500 * (w.value - s.lpb);
     let hpa = s.hpa + k.a400 * (lpb - s.hpa);
     let buzz = (lpb - hpa) * 0.40 * dsp::exp(-t / 0.13);
-    AcousticOut {
+    Out {
         sample: m1 + m2 + crack + buzz,
         state: AcousticState {
             lpa,
             lpb,
             hpa,
-            phase: s.phase,
-            phase2: s.phase2,
-            rng: next,
+            rng: w.rng,
+            ..s
         },
     }
 }
 
 // A stick's snap, its ring and a knock.
-pub fn rim(k: Coefficients, t: f32, s: AcousticState) -> AcousticOut
+pub fn rim(k: Coefficients, t: f32, s: AcousticState) -> Out<AcousticState>
     ensures { result ≡ acoustic_rim k t s }
 {
-    let rng = s.rng;
-    let w = rng.bi();
-    let next = w.rng;
+    let w = s.rng.bi();
     let lpa = s.lpa + k.a4000 * (w.value - s.lpa);
     let snap = (w.value - lpa) * 0.50 * dsp::exp(-t / 0.012);
     let ring = dsp::sin(dsp::TAU * 1700.0 * t) * 0.35 * dsp::exp(-t / 0.008);
     let knock = dsp::sin(dsp::TAU * 420.0 * t) * 0.30 * dsp::exp(-t / 0.03);
-    AcousticOut {
+    Out {
         sample: snap + ring + knock,
         state: AcousticState {
             lpa,
-            lpb: s.lpb,
-            hpa: s.hpa,
-            phase: s.phase,
-            phase2: s.phase2,
-            rng: next,
+            rng: w.rng,
+            ..s
         },
     }
 }
 
 // A head's fundamental and its next mode, and the stick; `above` is the number less 41.
-pub fn tom(above: f32, k: Coefficients, srf: f32, t: f32, s: AcousticState) -> AcousticOut
+pub fn tom(above: f32, k: Coefficients, srf: f32, t: f32, s: AcousticState) -> Out<AcousticState>
     ensures { result ≡ acoustic_tom above k srf t s }
 {
     let base = 80.0 + 24.0 * above;
@@ -154,41 +136,33 @@ pub fn tom(above: f32, k: Coefficients, srf: f32, t: f32, s: AcousticState) -> A
     let phase2 = osc::wrap(s.phase2 + 1.59 * ft / srf);
     let fund = dsp::sin(dsp::TAU * phase) * dsp::exp(-t / 0.35);
     let mode = dsp::sin(dsp::TAU * phase2) * 0.30 * dsp::exp(-t / 0.14);
-    let rng = s.rng;
-    let w = rng.bi();
-    let next = w.rng;
+    let w = s.rng.bi();
     let lpa = s.lpa + k.a2000 * (w.value - s.lpa);
     let stick = (w.value - lpa) * 0.18 * dsp::exp(-t / 0.008);
-    AcousticOut {
+    Out {
         sample: 0.85 * fund + mode + stick,
         state: AcousticState {
             lpa,
-            lpb: s.lpb,
-            hpa: s.hpa,
             phase,
             phase2,
-            rng: next,
+            rng: w.rng,
+            ..s
         },
     }
 }
 
 // Any other number: noise, half of it lowpassed, at its level.
-pub fn unmapped(level: f32, k: Coefficients, s: AcousticState) -> AcousticOut
+pub fn unmapped(level: f32, k: Coefficients, s: AcousticState) -> Out<AcousticState>
     ensures { result ≡ acoustic_unmapped_by level k s }
 {
-    let rng = s.rng;
-    let w = rng.bi();
-    let next = w.rng;
+    let w = s.rng.bi();
     let lpa = s.lpa + k.a4000 * (w.value - s.lpa);
-    AcousticOut {
+    Out {
         sample: (0.5 * w.value + 0.5 * lpa) * level,
         state: AcousticState {
             lpa,
-            lpb: s.lpb,
-            hpa: s.hpa,
-            phase: s.phase,
-            phase2: s.phase2,
-            rng: next,
+            rng: w.rng,
+            ..s
         },
     }
 }

@@ -1,21 +1,20 @@
-// A frame by its drum, and a note by blocks of 64 frames: the levels first, and then the frames in order.
-ghost use Rattle.std.specs.Prelude.{◌≡◌, ◌+◌, ◌-◌, ◌≤◌, length, get_or};
-ghost use Rattle.std.specs.Float.{nan};
-ghost use Rattle.blocks.proofs.Carried.{Carried};
+// A frame by its drum, and a hit.
+ghost use Rattle.std.specs.Prelude.{◌≡◌, length};
 ghost use Rattle.dsl.specs.Domain.{Frames};
 ghost use Rattle.osc.specs.Phase.{seconds};
 ghost use Rattle.rng.specs.SplitMix64.{state_after};
 ghost use Rattle.counts.specs.Draws.{passing};
 ghost use Rattle.kit_counts.specs.KitDraws.{acoustic_draws};
 ghost use Rattle.kit_acoustic.specs.Acoustic.{coefficients_of, acoustic_frames};
-ghost use Rattle.kit_acoustic.specs.Block.{acoustic_block_by};
+ghost use Rattle.kit_acoustic.specs.Block.{acoustic_block_level, acoustic_block_by};
 
 use crate::clap::clap;
-use crate::cymbals::{closed_hat, crash, open_hat, ride};
-use crate::drums::{AcousticOut, AcousticState, Coefficients, kick, rim, snare, tom, unmapped};
+use crate::cymbals::{crash, hat, ride};
+use crate::drums::{AcousticState, Coefficients, kick, rim, snare, tom, unmapped};
 use crate::levels::levels;
 use drum::Drum;
-use kit_parts::one_pole_step;
+use kit_parts::{Hit, one_pole_step};
+use osc::Out;
 use rng::Rng;
 
 fn coefficients(srf: f32) -> Coefficients
@@ -37,61 +36,44 @@ fn coefficients(srf: f32) -> Coefficients
     }
 }
 
-// A frame at its time, or by its level where that is all that the time gives it.
-fn drum_frame(
+// What the frames of a hit share: its drum, the rate, and the coefficients of its filters.
+#[derive(Clone, Copy)]
+struct Acoustic {
     drum: Drum,
-    level: f32,
-    k: Coefficients,
     srf: f32,
-    i: usize,
-    s: AcousticState,
-) -> AcousticOut
-    requires { Frames i }
-    ensures { result ≡ acoustic_block_by drum level k srf i s }
-{
-    let t = osc::frame_time(i, srf);
-    match drum {
-        Drum::Kick => kick(k, srf, t, s),
-        Drum::Snare => snare(k, t, s),
-        Drum::Rim => rim(k, t, s),
-        Drum::Clap => clap(level, k, s),
-        Drum::ClosedHat => closed_hat(level, k, s),
-        Drum::OpenHat => open_hat(level, k, s),
-        Drum::Tom(above) => tom(above, k, srf, t, s),
-        Drum::Cowbell => AcousticOut {
-            sample: level,
-            state: s,
-        },
-        Drum::Crash => crash(k, t, s),
-        Drum::Ride => ride(k, t, s),
-        Drum::Unmapped => unmapped(level, k, s),
-    }
+    k: Coefficients,
 }
 
-// The frames of a block, whose levels are a, from the state before it; hands back the state after it.
-fn drum_block(
-    drum: Drum,
-    a: &[f32; 64],
-    k: Coefficients,
-    srf: f32,
-    from: usize,
-    end: usize,
-    start: AcousticState,
-    out: &mut [f32],
-) -> AcousticState
-    requires { (from ≤ end) × (end ≤ from + 64) × (end ≤ 16777216) × (end ≤ length out.old) }
-    ensures { Carried (λ i. acoustic_block_by drum (get_or a.now (i - from) nan) k srf i) (λ o. o.sample) (λ o. o.state)
-        from end out.old start out.new result }
-{
-    let mut s = start;
-    let mut i = from;
-    while i < end {
-        let r = drum_frame(drum, a[i - from], k, srf, i, s);
-        out[i] = r.sample;
-        s = r.state;
-        i += 1;
+impl Hit for Acoustic {
+    type State = AcousticState;
+
+    ghost level_at = { λ h i. acoustic_block_level h.drum (seconds h.srf i) };
+
+    ghost frame_by = { λ h level i s. acoustic_block_by h.drum level h.k h.srf i s };
+
+    fn levels(&self, from: usize, end: usize, a: &mut [f32; 64]) {
+        levels(self.drum, self.srf, from, end, a)
     }
-    s
+
+    fn frame(&self, level: f32, i: usize, s: AcousticState) -> Out<AcousticState> {
+        let t = osc::frame_time(i, self.srf);
+        match self.drum {
+            Drum::Kick => kick(self.k, self.srf, t, s),
+            Drum::Snare => snare(self.k, t, s),
+            Drum::Rim => rim(self.k, t, s),
+            Drum::Clap => clap(level, self.k, s),
+            Drum::ClosedHat => hat(0.60, 0.55, level, self.k, s),
+            Drum::OpenHat => hat(0.55, 0.60, level, self.k, s),
+            Drum::Tom(above) => tom(above, self.k, self.srf, t, s),
+            Drum::Cowbell => Out {
+                sample: level,
+                state: s,
+            },
+            Drum::Crash => crash(self.k, t, s),
+            Drum::Ride => ride(self.k, t, s),
+            Drum::Unmapped => unmapped(level, self.k, s),
+        }
+    }
 }
 
 // Hands back the generator after a draw for each frame that draws.
@@ -101,7 +83,8 @@ pub fn kit_drum_acoustic(drum: Drum, srf: f32, rng: Rng, out: &mut [f32]) -> Rng
     ensures result_value { result.0 ≡ state_after rng.0 (passing (λ i. acoustic_draws drum (seconds srf i)) (length out.old)) }
 {
     let k = coefficients(srf);
-    let mut s = AcousticState {
+    let hit = Acoustic { drum, srf, k };
+    let start = AcousticState {
         lpa: 0.0,
         lpb: 0.0,
         hpa: 0.0,
@@ -109,13 +92,5 @@ pub fn kit_drum_acoustic(drum: Drum, srf: f32, rng: Rng, out: &mut [f32]) -> Rng
         phase2: 0.0,
         rng,
     };
-    let mut a = [0.0f32; 64];
-    let mut i = 0usize;
-    while i < out.len() {
-        let end = frame_block::block_end(i, out.len());
-        levels(drum, srf, i, end, &mut a);
-        s = drum_block(drum, &a, k, srf, i, end, s, out);
-        i = end;
-    }
-    s.rng
+    kit_parts::hit_frames(&hit, start, out).rng
 }

@@ -1,6 +1,6 @@
 // The drums that are noise and no more, whose levels need only the frames' times, and the cowbell, whose samples
 // do: they stand for its levels.
-ghost use Rattle.std.specs.Prelude.{◌≡◌, ◌+◌, ◌≤◌, length, get_or};
+ghost use Rattle.std.specs.Prelude.{◌≡◌, ◌+◌, ◌≤◌, length};
 ghost use Rattle.std.specs.Float.{nan};
 ghost use Rattle.blocks.proofs.Block.{Tabled};
 ghost use Rattle.osc.specs.Phase.{seconds};
@@ -8,25 +8,13 @@ ghost use Rattle.kit_acoustic.specs.Block.{open_hat_mix, acoustic_open_hat_level
 
 use crate::clap::clap_levels;
 use drum::Drum;
-use frame_block::{decays_before, zeros_before};
+use frame_block::{decays_before, table, zeros_before};
 use voice_cowbell::cowbell_before;
 
 fn open_hat_mix(slow: f32, fast: f32) -> f32
     ensures { result ≡ open_hat_mix slow fast }
 {
     0.85 * slow + 0.15 * fast
-}
-
-fn open_hat_mixes(slow: &[f32; 64], fast: &[f32; 64], a: &mut [f32; 64])
-    requires { length a.old ≡ 64 }
-    ensures { (length a.new ≡ 64)
-        × Tabled (λ k. open_hat_mix (get_or slow.now k nan) (get_or fast.now k nan)) nan 0 64 a.new }
-{
-    let mut i = 0usize;
-    while i < 64 {
-        a[i] = open_hat_mix(slow[i], fast[i]);
-        i += 1;
-    }
 }
 
 fn open_hat_levels(srf: f32, from: usize, end: usize, a: &mut [f32; 64])
@@ -38,7 +26,7 @@ fn open_hat_levels(srf: f32, from: usize, end: usize, a: &mut [f32; 64])
     let mut fast = [0.0f32; 64];
     decays_before(srf, 0.32, from, end, &mut slow);
     decays_before(srf, 0.08, from, end, &mut fast);
-    open_hat_mixes(&slow, &fast, a);
+    table(0, 64, a, |i| open_hat_mix(slow[i], fast[i]));
 }
 
 // In the frames from `from` on and before `end`.

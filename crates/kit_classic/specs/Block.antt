@@ -9,7 +9,7 @@ use Rattle.kit_parts.specs.Parts.{fade, bi, drawn}
 use Rattle.drum.specs.declared.Drum.{Drum}
 use Rattle.drum.specs.declared.Drum.TheVariants.{Kick, Snare, Rim, Clap, ClosedHat, OpenHat, Tom, Cowbell, Crash, Ride, Unmapped}
 use Rattle.kit_classic.specs.declared.drums.ClassicState.{ClassicState}
-use Rattle.kit_classic.specs.declared.drums.ClassicOut.{ClassicOut}
+use Rattle.osc.specs.declared.Out.{Out}
 use Rattle.kit_classic.specs.Drums.{classic_kick, classic_snare, classic_rim, classic_tom, classic_cowbell}
 use Rattle.kit_classic.specs.Cymbals.{high, passed, classic_ride}
 
@@ -27,14 +27,14 @@ classic_block_level Crash t = fade t c0·7
 classic_block_level Ride t = c0
 classic_block_level Unmapped t = fade t c0·08
 
-unfoldable pub classic_noise_by : Float → ClassicState → ClassicOut
+unfoldable pub classic_noise_by : Float → ClassicState → Out ClassicState
 classic_noise_by level s = record { sample = bi s.rng ⊗ level; state = record { lp = s.lp; phase = s.phase; rng = drawn s.rng } }
 
-unfoldable pub classic_hiss_by : Float → Float → ClassicState → ClassicOut
+unfoldable pub classic_hiss_by : Float → Float → ClassicState → Out ClassicState
 classic_hiss_by level hpA s = record { sample = high hpA s ⊗ level; state = passed hpA s }
 
 -- frame i, whose level is given
-unfoldable pub classic_block_by : Drum → Float → Float → Float → ℕ → ClassicState → ClassicOut
+unfoldable pub classic_block_by : Drum → Float → Float → Float → ℕ → ClassicState → Out ClassicState
 classic_block_by Kick level srf hpA i s = classic_kick srf (seconds srf i) s
 classic_block_by Snare level srf hpA i s = classic_snare (seconds srf i) s
 classic_block_by Rim level srf hpA i s = classic_rim (seconds srf i) s
@@ -62,7 +62,7 @@ classic_level Ride t = c0
 classic_level Unmapped t = fade t c0·08
 
 -- a frame by that level: the cowbell by itself
-unfoldable pub classic_by : Drum → Float → Float → Float → ℕ → ClassicState → ClassicOut
+unfoldable pub classic_by : Drum → Float → Float → Float → ℕ → ClassicState → Out ClassicState
 classic_by Kick level srf hpA i s = classic_kick srf (seconds srf i) s
 classic_by Snare level srf hpA i s = classic_snare (seconds srf i) s
 classic_by Rim level srf hpA i s = classic_rim (seconds srf i) s

@@ -9,12 +9,12 @@ use Rattle.kit_parts.specs.Parts.{coefficient}
 use Rattle.drum.specs.declared.Drum.{Drum}
 use Rattle.drum.specs.declared.Drum.TheVariants.{Kick, Snare, Rim, Clap, ClosedHat, OpenHat, Tom, Cowbell, Crash, Ride, Unmapped}
 use Rattle.kit_classic.specs.declared.drums.ClassicState.{ClassicState}
-use Rattle.kit_classic.specs.declared.drums.ClassicOut.{ClassicOut}
+use Rattle.osc.specs.declared.Out.{Out}
 use Rattle.kit_classic.specs.Drums.{classic_kick, classic_snare, classic_rim, classic_clap, classic_tom, classic_cowbell, classic_unmapped}
 use Rattle.kit_classic.specs.Cymbals.{classic_closed_hat, classic_open_hat, classic_crash, classic_ride}
 
 -- at the time t
-unfoldable pub classic_drum : Drum → Float → Float → Float → ClassicState → ClassicOut
+unfoldable pub classic_drum : Drum → Float → Float → Float → ClassicState → Out ClassicState
 classic_drum Kick srf hpA t s = classic_kick srf t s
 classic_drum Snare srf hpA t s = classic_snare t s
 classic_drum Rim srf hpA t s = classic_rim t s
@@ -28,7 +28,7 @@ classic_drum Ride srf hpA t s = classic_ride hpA t s
 classic_drum Unmapped srf hpA t s = classic_unmapped t s
 
 -- frame i
-abbrev pub classic_at : Drum → Float → Float → ℕ → ClassicState → ClassicOut
+abbrev pub classic_at : Drum → Float → Float → ℕ → ClassicState → Out ClassicState
 classic_at drum srf hpA i s = classic_drum drum srf hpA (seconds srf i) s
 
 abbrev pub classic_start : Rng → ClassicState

@@ -10,7 +10,7 @@ use Rattle.rng.specs.declared.Rng.{Rng}
 use Rattle.kit_parts.specs.Numbers.{c0·025, c0·04, c0·06, c0·08, c0·1, c0·11, c0·13, c0·18, c24, c45, c105, c190, c540, c800}
 use Rattle.kit_parts.specs.Parts.{tone, fade, turned, bi, drawn, drawn_if}
 use Rattle.kit_classic.specs.declared.drums.ClassicState.{ClassicState}
-use Rattle.kit_classic.specs.declared.drums.ClassicOut.{ClassicOut}
+use Rattle.osc.specs.declared.Out.{Out}
 
 -- "a fast downward pitch thump plus a 2 ms beater click": whether it clicks at the time t
 abbrev pub clicks : Float → Bool
@@ -19,7 +19,7 @@ clicks t = lt t c0·002
 unfoldable pub classic_click : Float → Rng → Float
 classic_click t rng = cond (clicks t) (bi rng ⊗ c0·4) c0
 
-unfoldable pub classic_kick : Float → Float → ClassicState → ClassicOut
+unfoldable pub classic_kick : Float → Float → ClassicState → Out ClassicState
 classic_kick srf t s =
     let fk = c45 ⊕ c105 ⊗ fade t c0·04 in
     let phase = turned s.phase fk srf in
@@ -28,7 +28,7 @@ classic_kick srf t s =
       state = record { lp = s.lp; phase = phase; rng = drawn_if (clicks t) s.rng };
     }
 
-unfoldable pub classic_snare : Float → ClassicState → ClassicOut
+unfoldable pub classic_snare : Float → ClassicState → Out ClassicState
 classic_snare t s =
     let hit = tone c190 t ⊗ c0·4 ⊗ fade t c0·06 in
     record {
@@ -36,17 +36,17 @@ classic_snare t s =
       state = record { lp = s.lp; phase = s.phase; rng = drawn s.rng };
     }
 
-unfoldable pub classic_rim : Float → ClassicState → ClassicOut
+unfoldable pub classic_rim : Float → ClassicState → Out ClassicState
 classic_rim t s = record {
   sample = tone c800 t ⊗ c0·3 ⊗ fade t c0·03 ⊕ bi s.rng ⊗ fade t c0·025;
   state = record { lp = s.lp; phase = s.phase; rng = drawn s.rng };
 }
 
-unfoldable pub classic_clap : Float → ClassicState → ClassicOut
+unfoldable pub classic_clap : Float → ClassicState → Out ClassicState
 classic_clap t s = record { sample = bi s.rng ⊗ fade t c0·09; state = record { lp = s.lp; phase = s.phase; rng = drawn s.rng } }
 
 -- `above` is (midi - 41) as f32
-unfoldable pub classic_tom : Float → Float → Float → ClassicState → ClassicOut
+unfoldable pub classic_tom : Float → Float → Float → ClassicState → Out ClassicState
 classic_tom above srf t s =
     let base = c80 ⊕ c24 ⊗ above in
     let ft = base ⊗ (c1 ⊖ c0·15 ⊗ min_of (t ⊘ c0·2) c1) in
@@ -56,9 +56,9 @@ classic_tom above srf t s =
       state = record { lp = s.lp; phase = phase; rng = drawn s.rng };
     }
 
-unfoldable pub classic_cowbell : Float → ClassicState → ClassicOut
+unfoldable pub classic_cowbell : Float → ClassicState → Out ClassicState
 classic_cowbell t s = record { sample = cowbell_of c540 t; state = s }
 
 -- "Anything unmapped: a generic percussive hit"
-unfoldable pub classic_unmapped : Float → ClassicState → ClassicOut
+unfoldable pub classic_unmapped : Float → ClassicState → Out ClassicState
 classic_unmapped t s = record { sample = bi s.rng ⊗ fade t c0·08; state = record { lp = s.lp; phase = s.phase; rng = drawn s.rng } }

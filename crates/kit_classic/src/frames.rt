@@ -1,69 +1,59 @@
-// A frame by its drum, and a note by blocks of 64 frames: the levels first, and then the frames in order.
-ghost use Rattle.std.specs.Prelude.{◌≡◌, ◌+◌, ◌-◌, ◌≤◌, length, get_or};
-ghost use Rattle.std.specs.Float.{nan};
-ghost use Rattle.blocks.proofs.Carried.{Carried};
+// A frame by its drum, and a hit.
+ghost use Rattle.std.specs.Prelude.{◌≡◌, length};
 ghost use Rattle.dsl.specs.Domain.{Frames};
 ghost use Rattle.osc.specs.Phase.{seconds};
 ghost use Rattle.rng.specs.SplitMix64.{state_after};
 ghost use Rattle.counts.specs.Draws.{passing};
 ghost use Rattle.kit_counts.specs.KitDraws.{classic_draws};
 ghost use Rattle.kit_classic.specs.Classic.{classic_frames};
-ghost use Rattle.kit_classic.specs.Block.{classic_block_by};
+ghost use Rattle.kit_classic.specs.Block.{classic_block_level, classic_block_by};
 
 use crate::cymbals::{hiss, ride};
-use crate::drums::{ClassicOut, ClassicState, kick, noise, rim, snare, tom};
+use crate::drums::{ClassicState, kick, noise, rim, snare, tom};
 use crate::levels::levels;
 use drum::Drum;
+use kit_parts::Hit;
+use osc::Out;
 use rng::Rng;
 
-// A frame at its time, or by its level where that is all that the time gives it.
-fn drum_frame(drum: Drum, level: f32, srf: f32, hp_a: f32, i: usize, s: ClassicState) -> ClassicOut
-    requires { Frames i }
-    ensures { result ≡ classic_block_by drum level srf hp_a i s }
-{
-    let t = osc::frame_time(i, srf);
-    match drum {
-        Drum::Kick => kick(srf, t, s),
-        Drum::Snare => snare(t, s),
-        Drum::Rim => rim(t, s),
-        Drum::Clap => noise(level, s),
-        Drum::ClosedHat => hiss(level, hp_a, s),
-        Drum::OpenHat => hiss(level, hp_a, s),
-        Drum::Tom(above) => tom(above, srf, t, s),
-        Drum::Cowbell => ClassicOut {
-            sample: level,
-            state: s,
-        },
-        Drum::Crash => hiss(level, hp_a, s),
-        Drum::Ride => ride(hp_a, t, s),
-        Drum::Unmapped => noise(level, s),
-    }
-}
-
-// The frames of a block, whose levels are a, from the state before it; hands back the state after it.
-fn drum_block(
+// What the frames of a hit share: its drum, the rate, and the coefficient of its filter.
+#[derive(Clone, Copy)]
+struct Classic {
     drum: Drum,
-    a: &[f32; 64],
     srf: f32,
     hp_a: f32,
-    from: usize,
-    end: usize,
-    start: ClassicState,
-    out: &mut [f32],
-) -> ClassicState
-    requires { (from ≤ end) × (end ≤ from + 64) × (end ≤ 16777216) × (end ≤ length out.old) }
-    ensures { Carried (λ i. classic_block_by drum (get_or a.now (i - from) nan) srf hp_a i) (λ o. o.sample) (λ o. o.state)
-        from end out.old start out.new result }
-{
-    let mut s = start;
-    let mut i = from;
-    while i < end {
-        let r = drum_frame(drum, a[i - from], srf, hp_a, i, s);
-        out[i] = r.sample;
-        s = r.state;
-        i += 1;
+}
+
+impl Hit for Classic {
+    type State = ClassicState;
+
+    ghost level_at = { λ h i. classic_block_level h.drum (seconds h.srf i) };
+
+    ghost frame_by = { λ h level i s. classic_block_by h.drum level h.srf h.hp_a i s };
+
+    fn levels(&self, from: usize, end: usize, a: &mut [f32; 64]) {
+        levels(self.drum, self.srf, from, end, a)
     }
-    s
+
+    fn frame(&self, level: f32, i: usize, s: ClassicState) -> Out<ClassicState> {
+        let t = osc::frame_time(i, self.srf);
+        match self.drum {
+            Drum::Kick => kick(self.srf, t, s),
+            Drum::Snare => snare(t, s),
+            Drum::Rim => rim(t, s),
+            Drum::Clap => noise(level, s),
+            Drum::ClosedHat => hiss(level, self.hp_a, s),
+            Drum::OpenHat => hiss(level, self.hp_a, s),
+            Drum::Tom(above) => tom(above, self.srf, t, s),
+            Drum::Cowbell => Out {
+                sample: level,
+                state: s,
+            },
+            Drum::Crash => hiss(level, self.hp_a, s),
+            Drum::Ride => ride(self.hp_a, t, s),
+            Drum::Unmapped => noise(level, s),
+        }
+    }
 }
 
 // Hands back the generator after a draw for each frame that draws.
@@ -73,18 +63,11 @@ pub fn kit_drum_classic(drum: Drum, srf: f32, rng: Rng, out: &mut [f32]) -> Rng
     ensures result_value { result.0 ≡ state_after rng.0 (passing (λ i. classic_draws drum (seconds srf i)) (length out.old)) }
 {
     let hp_a = kit_parts::one_pole_step(5500.0, srf);
-    let mut s = ClassicState {
+    let hit = Classic { drum, srf, hp_a };
+    let start = ClassicState {
         lp: 0.0,
         phase: 0.0,
         rng,
     };
-    let mut a = [0.0f32; 64];
-    let mut i = 0usize;
-    while i < out.len() {
-        let end = frame_block::block_end(i, out.len());
-        levels(drum, srf, i, end, &mut a);
-        s = drum_block(drum, &a, srf, hp_a, i, end, s, out);
-        i = end;
-    }
-    s.rng
+    kit_parts::hit_frames(&hit, start, out).rng
 }

@@ -2,7 +2,6 @@
 use Prim.Native.Nat.{ℕ}
 use mathlib.Core.Path.{◌≡◌, refl}
 use mathlib.Core.Bool.{Bool, true, false, cond}
-use mathlib.Core.List.{List, [], ◌∷◌}
 use lib.Ieee.{Float, lt, of_bits}
 use Rattle.ieee.specs.Numbers.{c0, c0·03}
 use Rattle.dsp.specs.Kernels.{exp_of}

@@ -14,12 +14,12 @@ use Rattle.drum.specs.declared.Drum.{Drum}
 use Rattle.drum.specs.declared.Drum.TheVariants.{Kick, Snare, Rim, Clap, ClosedHat, OpenHat, Tom, Cowbell, Crash, Ride, Unmapped}
 use Rattle.kit_electronic.specs.declared.drums.ElectronicState.{ElectronicState}
 use Rattle.kit_electronic.specs.Drums.{electronic_kick, electronic_snare, electronic_rim, electronic_clap, electronic_tom, electronic_cowbell}
-use Rattle.kit_electronic.specs.Cymbals.{electronic_hiss, electronic_open_hat, electronic_crash, electronic_ride}
+use Rattle.kit_electronic.specs.Cymbals.{electronic_hiss, electronic_glassy, electronic_ride}
 use Rattle.kit_electronic.specs.Electronic.{electronic_drum, electronic_at}
 
 drawn_once : (drum : Drum) (srf a5500 a9000 t : Float) (s : ElectronicState) → (electronic_drum drum srf a5500 a9000 t s).state.rng.0 ≡ cond (electronic_draws drum t) (advance s.rng.0) s.rng.0
-unfolding electronic_drum draws_below electronic_kick electronic_snare electronic_rim electronic_clap electronic_tom electronic_cowbell electronic_hiss electronic_open_hat
-    electronic_crash electronic_ride
+unfolding electronic_drum draws_below electronic_kick electronic_snare electronic_rim electronic_clap electronic_tom electronic_cowbell electronic_hiss electronic_glassy
+    electronic_ride
 drawn_once Kick srf a5500 a9000 t s = refl
 drawn_once Snare srf a5500 a9000 t s = refl
 drawn_once Rim srf a5500 a9000 t s = refl

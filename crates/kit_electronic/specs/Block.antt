@@ -11,7 +11,7 @@ use Rattle.kit_parts.specs.Parts.{fade, filtered, bi, drawn}
 use Rattle.drum.specs.declared.Drum.{Drum}
 use Rattle.drum.specs.declared.Drum.TheVariants.{Kick, Snare, Rim, Clap, ClosedHat, OpenHat, Tom, Cowbell, Crash, Ride, Unmapped}
 use Rattle.kit_electronic.specs.declared.drums.ElectronicState.{ElectronicState}
-use Rattle.kit_electronic.specs.declared.drums.ElectronicOut.{ElectronicOut}
+use Rattle.osc.specs.declared.Out.{Out}
 use Rattle.kit_electronic.specs.Drums.{electronic_kick, electronic_snare, electronic_rim, claps_of, electronic_tom, electronic_cowbell}
 use Rattle.kit_electronic.specs.Cymbals.{high, passed, electronic_open_hat, electronic_crash, electronic_ride}
 
@@ -34,7 +34,7 @@ unfoldable pub clap_argument : Float → Float
 clap_argument t = cond (lt t c0·03) (neg (rem_of t c0·01 ⊘ c0·003)) (neg (t ⊖ c0·03) ⊘ c0·1)
 
 -- the clap
-unfoldable pub electronic_clap_by : Float → Float → ElectronicState → ElectronicOut
+unfoldable pub electronic_clap_by : Float → Float → ElectronicState → Out ElectronicState
 electronic_clap_by level a5500 s =
     let w = bi s.rng in
     let lp = filtered s.lp a5500 w in
@@ -43,11 +43,11 @@ electronic_clap_by level a5500 s =
       state = record { lp = lp; lp2 = s.lp2; phase = s.phase; rng = drawn s.rng };
     }
 
-unfoldable pub electronic_hiss_by : Float → Float → Float → ElectronicState → ElectronicOut
+unfoldable pub electronic_hiss_by : Float → Float → Float → ElectronicState → Out ElectronicState
 electronic_hiss_by gain level a9000 s = record { sample = high a9000 s ⊗ gain ⊗ level; state = passed a9000 s }
 
 -- frame i, whose level is given
-unfoldable pub electronic_block_by : Drum → Float → Float → Float → Float → ℕ → ElectronicState → ElectronicOut
+unfoldable pub electronic_block_by : Drum → Float → Float → Float → Float → ℕ → ElectronicState → Out ElectronicState
 electronic_block_by Kick level srf a5500 a9000 i s = electronic_kick srf (seconds srf i) s
 electronic_block_by Snare level srf a5500 a9000 i s = electronic_snare a5500 (seconds srf i) s
 electronic_block_by Rim level srf a5500 a9000 i s = electronic_rim (seconds srf i) s
@@ -75,7 +75,7 @@ electronic_level Ride t = c0
 electronic_level Unmapped t = fade t c0·06
 
 -- a frame by that level: the cowbell by itself
-unfoldable pub electronic_by : Drum → Float → Float → Float → Float → ℕ → ElectronicState → ElectronicOut
+unfoldable pub electronic_by : Drum → Float → Float → Float → Float → ℕ → ElectronicState → Out ElectronicState
 electronic_by Kick level srf a5500 a9000 i s = electronic_kick srf (seconds srf i) s
 electronic_by Snare level srf a5500 a9000 i s = electronic_snare a5500 (seconds srf i) s
 electronic_by Rim level srf a5500 a9000 i s = electronic_rim (seconds srf i) s

@@ -12,7 +12,7 @@ use Rattle.kit_parts.specs.Numbers.{c0·012, c0·02, c0·025, c0·05, c0·055, c
 use Rattle.kit_parts.specs.Numbers.{c1·2, c1·3, c1·5, c26, c55, c90, c145, c185, c330, c420, c555, c1700}
 use Rattle.kit_parts.specs.Parts.{tone, fade, filtered, turned, bi, drawn, drawn_if}
 use Rattle.kit_electronic.specs.declared.drums.ElectronicState.{ElectronicState}
-use Rattle.kit_electronic.specs.declared.drums.ElectronicOut.{ElectronicOut}
+use Rattle.osc.specs.declared.Out.{Out}
 
 -- whether a kick clicks at the time t
 abbrev pub clicks : Float → Bool
@@ -21,7 +21,7 @@ clicks t = lt t c0·003
 unfoldable pub electronic_click : Float → Rng → Float
 electronic_click t rng = cond (clicks t) (bi rng ⊗ c0·3) c0
 
-unfoldable pub electronic_kick : Float → Float → ElectronicState → ElectronicOut
+unfoldable pub electronic_kick : Float → Float → ElectronicState → Out ElectronicState
 electronic_kick srf t s =
     let fk = c55 ⊕ c145 ⊗ fade t c0·025 in
     let phase = turned s.phase fk srf in
@@ -35,7 +35,7 @@ electronic_kick srf t s =
 unfoldable pub gate_of : Float → Float
 gate_of t = cond (lt t c0·13) c1 (exp_of (neg (t ⊖ c0·13) ⊘ c0·006))
 
-unfoldable pub electronic_snare : Float → Float → ElectronicState → ElectronicOut
+unfoldable pub electronic_snare : Float → Float → ElectronicState → Out ElectronicState
 electronic_snare a5500 t s =
     let body = (tone c185 t ⊗ c0·45 ⊕ tone c330 t ⊗ c0·22) ⊗ fade t c0·055 in
     let w = bi s.rng in
@@ -45,7 +45,7 @@ electronic_snare a5500 t s =
       state = record { lp = lp; lp2 = s.lp2; phase = s.phase; rng = drawn s.rng };
     }
 
-unfoldable pub electronic_rim : Float → ElectronicState → ElectronicOut
+unfoldable pub electronic_rim : Float → ElectronicState → Out ElectronicState
 electronic_rim t s = record {
   sample = tone c1700 t ⊗ c0·5 ⊗ fade t c0·012 ⊕ tone c420 t ⊗ c0·3 ⊗ fade t c0·02 ⊕ bi s.rng ⊗ c0·3 ⊗ fade t c0·006;
   state = record { lp = s.lp; lp2 = s.lp2; phase = s.phase; rng = drawn s.rng };
@@ -55,7 +55,7 @@ electronic_rim t s = record {
 unfoldable pub claps_of : Float → Float
 claps_of t = cond (lt t c0·03) (exp_of (neg (rem_of t c0·01 ⊘ c0·003))) (exp_of (neg (t ⊖ c0·03) ⊘ c0·1))
 
-unfoldable pub electronic_clap : Float → Float → ElectronicState → ElectronicOut
+unfoldable pub electronic_clap : Float → Float → ElectronicState → Out ElectronicState
 electronic_clap a5500 t s =
     let w = bi s.rng in
     let lp = filtered s.lp a5500 w in
@@ -65,7 +65,7 @@ electronic_clap a5500 t s =
     }
 
 -- `above` is (midi - 41) as f32
-unfoldable pub electronic_tom : Float → Float → Float → ElectronicState → ElectronicOut
+unfoldable pub electronic_tom : Float → Float → Float → ElectronicState → Out ElectronicState
 electronic_tom above srf t s =
     let base = c90 ⊕ c26 ⊗ above in
     let ft = base ⊗ (c1 ⊕ c1·5 ⊗ fade t c0·05) in
@@ -75,5 +75,5 @@ electronic_tom above srf t s =
       state = record { lp = s.lp; lp2 = s.lp2; phase = phase; rng = drawn s.rng };
     }
 
-unfoldable pub electronic_cowbell : Float → ElectronicState → ElectronicOut
+unfoldable pub electronic_cowbell : Float → ElectronicState → Out ElectronicState
 electronic_cowbell t s = record { sample = cowbell_of c555 t; state = s }

@@ -9,12 +9,12 @@ use Rattle.kit_parts.specs.Parts.{coefficient}
 use Rattle.drum.specs.declared.Drum.{Drum}
 use Rattle.drum.specs.declared.Drum.TheVariants.{Kick, Snare, Rim, Clap, ClosedHat, OpenHat, Tom, Cowbell, Crash, Ride, Unmapped}
 use Rattle.kit_electronic.specs.declared.drums.ElectronicState.{ElectronicState}
-use Rattle.kit_electronic.specs.declared.drums.ElectronicOut.{ElectronicOut}
+use Rattle.osc.specs.declared.Out.{Out}
 use Rattle.kit_electronic.specs.Drums.{electronic_kick, electronic_snare, electronic_rim, electronic_clap, electronic_tom, electronic_cowbell}
 use Rattle.kit_electronic.specs.Cymbals.{electronic_closed_hat, electronic_open_hat, electronic_crash, electronic_ride, electronic_unmapped}
 
 -- at the time t
-unfoldable pub electronic_drum : Drum → Float → Float → Float → Float → ElectronicState → ElectronicOut
+unfoldable pub electronic_drum : Drum → Float → Float → Float → Float → ElectronicState → Out ElectronicState
 electronic_drum Kick srf a5500 a9000 t s = electronic_kick srf t s
 electronic_drum Snare srf a5500 a9000 t s = electronic_snare a5500 t s
 electronic_drum Rim srf a5500 a9000 t s = electronic_rim t s
@@ -28,7 +28,7 @@ electronic_drum Ride srf a5500 a9000 t s = electronic_ride a9000 t s
 electronic_drum Unmapped srf a5500 a9000 t s = electronic_unmapped a9000 t s
 
 -- frame i
-abbrev pub electronic_at : Drum → Float → Float → Float → ℕ → ElectronicState → ElectronicOut
+abbrev pub electronic_at : Drum → Float → Float → Float → ℕ → ElectronicState → Out ElectronicState
 electronic_at drum srf a5500 a9000 i s = electronic_drum drum srf a5500 a9000 (seconds srf i) s
 
 abbrev pub electronic_start : Rng → ElectronicState

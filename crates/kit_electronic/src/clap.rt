@@ -16,18 +16,6 @@ fn clap_argument(t: f32) -> f32
     -(t - 0.03) / 0.10
 }
 
-fn clap_arguments(srf: f32, from: usize, end: usize, x: &mut [f32; 64])
-    requires from_le_end { (from ≤ end) × (end ≤ from + 64) × (end ≤ 16777216) }
-    requires x_len { length x.old ≡ 64 }
-    ensures { (length x.new ≡ 64) × Tabled (λ i. clap_argument (seconds srf i)) nan from end x.new }
-{
-    let mut i = from;
-    while i < end {
-        x[i - from] = clap_argument(osc::frame_time(i, srf));
-        i += 1;
-    }
-}
-
 // The levels of the frames from `from` on and before `end`.
 pub fn claps_before(srf: f32, from: usize, end: usize, a: &mut [f32; 64])
     requires from_le_end { (from ≤ end) × (end ≤ from + 64) × (end ≤ 16777216) }
@@ -35,6 +23,6 @@ pub fn claps_before(srf: f32, from: usize, end: usize, a: &mut [f32; 64])
     ensures { (length a.new ≡ 64) × Tabled (λ i. claps_of (seconds srf i)) nan from end a.new }
 {
     let mut x = [0.0f32; 64];
-    clap_arguments(srf, from, end, &mut x);
+    kit_parts::at_times(srf, from, end, &mut x, |_, t| clap_argument(t));
     frame_block::exps_before(&x, end - from, a);
 }

@@ -1,8 +1,8 @@
 -- What the arms of render/kit.rs write again and again: a sine, a decay, a step of a one-pole filter, of a phase and of the generator. `t` is the time of the frame, `srf` the rate.
 use Rattle.std.specs.Prelude.{Bool, cond, Float}
-use Rattle.std.specs.Float.Ieee.{neg}
+use Rattle.std.specs.Float.Ieee.{lt, neg}
 use Rattle.ieee.specs.Binary32.{◌⊕◌, ◌⊖◌, ◌⊗◌, ◌⊘◌}
-use Rattle.ieee.specs.Numbers.{c1}
+use Rattle.ieee.specs.Numbers.{c0, c1}
 use Rattle.dsp.specs.Kernels.{TAU, sin_of, exp_of}
 use Rattle.rng.specs.SplitMix64.{advance}
 use Rattle.rng.specs.Draw.{bi_from}
@@ -40,3 +40,11 @@ drawn rng = record { 0 = advance rng.0 }
 -- the generator after a draw that is made if a test holds
 abbrev pub drawn_if : Bool → Rng → Rng
 drawn_if b rng = record { 0 = cond b (advance rng.0) rng.0 }
+
+-- the generator at the time t of a drum that draws for the first `length` seconds
+abbrev pub drawn_before : Float → Float → Rng → Rng
+drawn_before length t rng = drawn_if (lt t length) rng
+
+-- if t < length { rng.bi() * level } else { 0.0 }
+abbrev pub clicked : Float → Float → Float → Rng → Float
+clicked length level t rng = cond (lt t length) (bi rng ⊗ level) c0

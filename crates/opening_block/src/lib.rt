@@ -12,17 +12,6 @@ fn rest(e: f32) -> f32
     1.0 - e
 }
 
-fn rests(e: &[f32; 64], a: &mut [f32; 64])
-    requires { length a.old ≡ 64 }
-    ensures { (length a.new ≡ 64) × Tabled (λ k. rest_of (get_or e.now k nan)) nan 0 64 a.new }
-{
-    let mut i = 0usize;
-    while i < 64 {
-        a[i] = rest(e[i]);
-        i += 1;
-    }
-}
-
 // By the arguments x of the exponentials.
 pub fn openings(x: &[f32; 64], a: &mut [f32; 64])
     requires { length a.old ≡ 64 }
@@ -30,5 +19,5 @@ pub fn openings(x: &[f32; 64], a: &mut [f32; 64])
 {
     let mut e = [0.0f32; 64];
     exp_block::expf_block(x, &mut e);
-    rests(&e, a);
+    frame_block::table(0, 64, a, |i| rest(e[i]));
 }

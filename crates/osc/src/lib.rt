@@ -15,6 +15,13 @@ pub enum Shape {
     Saw,
 }
 
+// A frame's sample, and the state of its voice or drum after it.
+#[derive(Clone, Copy)]
+pub struct Out<S> {
+    pub sample: f32,
+    pub state: S,
+}
+
 // PolyBLEP residual: what a jump at phase 0 is corrected by, within one increment dt of it.
 pub fn poly_blep(t: f32, dt: f32) -> f32
     ensures { result ≡ poly_blep t dt }

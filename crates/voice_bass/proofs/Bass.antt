@@ -18,7 +18,7 @@ use Rattle.bass_opening.specs.Cutoff.{bass_opening_at}
 use Rattle.voice_bass.specs.Bass.{cutoff_at, drive_of, bass_at, bass_start, bass_frames}
 use Rattle.voice_bass.specs.Block.{BassRead, bass_by}
 use Rattle.voice_bass.specs.declared.BassState.{BassState}
-use Rattle.voice_bass.specs.declared.BassOut.{BassOut}
+use Rattle.osc.specs.declared.Out.{Out}
 
 module _ (a e fi : Float) (bass : BassKnobs) (srf : Float) where
   pub bass_frame :
@@ -30,7 +30,7 @@ module _ (a e fi : Float) (bass : BassKnobs) (srf : Float) where
       sine ≡ sin_of (TAU ⊗ s.sub) →
       phase ≡ wrapped (s.phase ⊕ dt) →
       sub ≡ wrapped (s.sub ⊕ dt ⊗ bass.bass_sub_ratio) →
-      ◌≡◌ {A = BassOut} (record { sample = (bass.bass_body ⊗ body ⊕ bass.bass_sub ⊗ sine) ⊗ e; state = record { phase = phase; sub = sub; lp = lp } })
+      ◌≡◌ {A = (Out BassState)} (record { sample = (bass.bass_body ⊗ body ⊕ bass.bass_sub ⊗ sine) ⊗ e; state = record { phase = phase; sub = sub; lp = lp } })
       (bass_by (record { opening = a; fade = e }) fi bass srf s)
   unfolding bass_by
   bass_frame s b c d g h j = rw (j, h, g, d, c, b)

@@ -10,7 +10,7 @@ use Rattle.osc.specs.Osc.{saw_of}
 use Rattle.osc.specs.Phase.{wrapped, increment, seconds}
 use Rattle.dsl.specs.declared.knobs.BassKnobs.{BassKnobs}
 use Rattle.voice_bass.specs.declared.BassState.{BassState}
-use Rattle.voice_bass.specs.declared.BassOut.{BassOut}
+use Rattle.osc.specs.declared.Out.{Out}
 
 unfoldable pub cutoff_at : BassKnobs → Float → Float → Float
 cutoff_at bass gain t =
@@ -22,7 +22,7 @@ drive_of knob lp =
     let drive = clamp_of knob c0 c1 in
     lp ⊕ drive ⊗ (tanh_of (lp ⊗ (c1 ⊕ c2 ⊗ drive)) ⊖ lp)
 
-unfoldable pub bass_at : Float → BassKnobs → Float → Float → ℕ → BassState → BassOut
+unfoldable pub bass_at : Float → BassKnobs → Float → Float → ℕ → BassState → Out BassState
 bass_at fi bass gain srf i s =
     let bodyDecay = max_of bass.bass_body_decay c0·001 in
     let dt = increment fi srf in

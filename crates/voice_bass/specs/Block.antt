@@ -7,13 +7,13 @@ use Rattle.osc.specs.Phase.{wrapped, increment}
 use Rattle.dsl.specs.declared.knobs.BassKnobs.{BassKnobs}
 use Rattle.voice_bass.specs.Bass.{drive_of}
 use Rattle.voice_bass.specs.declared.BassState.{BassState}
-use Rattle.voice_bass.specs.declared.BassOut.{BassOut}
+use Rattle.osc.specs.declared.Out.{Out}
 
 pub record BassRead : Type 0 where
   pub opening : Float
   pub fade : Float
 
-unfoldable pub bass_by : BassRead → Float → BassKnobs → Float → BassState → BassOut
+unfoldable pub bass_by : BassRead → Float → BassKnobs → Float → BassState → Out BassState
 bass_by x fi bass srf s =
     let dt = increment fi srf in
     let lp = s.lp ⊕ x.opening ⊗ (saw_of s.phase dt ⊖ s.lp) in

@@ -4,15 +4,14 @@
 // to 64 frames: the filter's openings and the fades first, then the frames in order.
 #![tactic(auto)]
 
-ghost use Rattle.std.specs.Prelude.{◌≡◌, ◌+◌, ◌-◌, ◌≤◌, length, get_or};
-ghost use Rattle.std.specs.Float.{nan};
-ghost use Rattle.blocks.proofs.Carried.{Carried};
+ghost use Rattle.std.specs.Prelude.{◌≡◌, length};
 ghost use Rattle.dsl.specs.Domain.{Frames};
 ghost use Rattle.dsl.specs.Pitch.{pitch_at, reaches};
 ghost use Rattle.voice_bass.specs.Bass.{drive_of, bass_frames};
 ghost use Rattle.voice_bass.specs.Block.{bass_by};
 
 use dsl::{BassKnobs, Reading};
+use osc::Out;
 
 // The phases of the saw and of the sub, and the filter's memory.
 #[derive(Clone, Copy)]
@@ -20,12 +19,6 @@ struct BassState {
     phase: f32,
     sub: f32,
     lp: f32,
-}
-
-#[derive(Clone, Copy)]
-struct BassOut {
-    sample: f32,
-    state: BassState,
 }
 
 // From the filtered saw toward its saturation, as far as the drive says.
@@ -37,7 +30,7 @@ fn drive(knob: f32, lp: f32) -> f32
 }
 
 // A frame, its filter opened by a and its level faded by e.
-fn bass_by(a: f32, e: f32, fi: f32, bass: BassKnobs, srf: f32, s: BassState) -> BassOut
+fn bass_by(a: f32, e: f32, fi: f32, bass: BassKnobs, srf: f32, s: BassState) -> Out<BassState>
     ensures { result ≡ bass_by (record { opening = a; fade = e }) fi bass srf s }
 {
     let dt = osc::phase_step(fi, srf);
@@ -47,40 +40,10 @@ fn bass_by(a: f32, e: f32, fi: f32, bass: BassKnobs, srf: f32, s: BassState) -> 
     let sample = (bass.bass_body * body + bass.bass_sub * sine) * e;
     let phase = osc::wrap(s.phase + dt);
     let sub = osc::wrap(s.sub + dt * bass.bass_sub_ratio);
-    BassOut {
+    Out {
         sample,
         state: BassState { phase, sub, lp },
     }
-}
-
-// The frames of a block, whose openings are a and whose fades are e, from the state before it; hands back the state
-// after it.
-fn bass_block(
-    a: &[f32; 64],
-    e: &[f32; 64],
-    pitch: Reading,
-    lane: &[f32],
-    bass: BassKnobs,
-    srf: f32,
-    from: usize,
-    end: usize,
-    start: BassState,
-    out: &mut [f32],
-) -> BassState
-    requires from_le_end { (from ≤ end) × (end ≤ from + 64) × (end ≤ length out.old) }
-    requires reaches { reaches pitch (length lane.now) end }
-    ensures { Carried (λ i. bass_by (record { opening = get_or a.now (i - from) nan; fade = get_or e.now (i - from) nan }) (pitch_at pitch lane.now i) bass srf)
-        (λ o. o.sample) (λ o. o.state) from end out.old start out.new result }
-{
-    let mut s = start;
-    let mut i = from;
-    while i < end {
-        let r = bass_by(a[i - from], e[i - from], pitch.at(lane, i), bass, srf, s);
-        out[i] = r.sample;
-        s = r.state;
-        i += 1;
-    }
-    s
 }
 
 // In blocks of 64 frames: the openings and the fades first, and then the frames.
@@ -104,12 +67,12 @@ pub fn bass_note(
     };
     let mut a = [0.0f32; 64];
     let mut e = [0.0f32; 64];
-    let mut i = 0usize;
-    while i < out.len() {
+    for i in (0..out.len()).step_by(64) {
         let end = frame_block::block_end(i, out.len());
         bass_opening::openings(bass, gain, srf, i, end, &mut a);
         frame_block::decays_before(srf, body_decay, i, end, &mut e);
-        s = bass_block(&a, &e, pitch, lane, bass, srf, i, end, s, out);
-        i = end;
+        s = frame_block::frames(i, end, s, out, |k, s| {
+            bass_by(a[k - i], e[k - i], pitch.at(lane, k), bass, srf, s)
+        });
     }
 }

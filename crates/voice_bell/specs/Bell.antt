@@ -9,7 +9,7 @@ use Rattle.ieee.specs.Order.{max_of}
 use Rattle.dsp.specs.Kernels.{TAU, sin_of, exp_of}
 use Rattle.osc.specs.Phase.{wrapped, increment, seconds}
 use Rattle.voice_bell.specs.declared.BellState.{BellState}
-use Rattle.voice_bell.specs.declared.BellOut.{BellOut}
+use Rattle.osc.specs.declared.Out.{Out}
 
 -- 1.001
 abbrev pub c1·001 : Float
@@ -60,7 +60,7 @@ bell_next s dt = record {
 abbrev pub bell_norm : Float
 bell_norm = c1 ⊘ (c1 ⊕ (c1 ⊕ c0·6 ⊕ c0·4 ⊕ c0·3 ⊕ c0·2))
 
-unfoldable pub bell_at : Float → Float → ℕ → BellState → BellOut
+unfoldable pub bell_at : Float → Float → ℕ → BellState → Out BellState
 bell_at fi srf i s = record { sample = bell_sum s (seconds srf i) ⊗ bell_norm; state = bell_next s (increment fi srf) }
 
 abbrev pub bell_start : BellState

@@ -30,13 +30,6 @@ pub struct BellState {
     pub twin: f32,
 }
 
-// A frame of the definition.
-#[derive(Clone, Copy)]
-pub struct BellOut {
-    pub sample: f32,
-    pub state: BellState,
-}
-
 // The sample of frame k of a block by its sines and the levels of the partials.
 fn bell_mix(
     s: &[f32; 384],
@@ -92,20 +85,17 @@ fn phases(
     ensures value { result ≡ bell_reached (pitch_at pitch lane.now) srf from start n }
 {
     let mut s = start;
-    let mut k = 0usize;
-    while k < n {
-        frame_block::store6(
-            x,
-            k * 6,
+    for k in 0..n {
+        let turns = [
             dsp::TAU * s.ph0,
             dsp::TAU * s.ph1,
             dsp::TAU * s.ph2,
             dsp::TAU * s.ph3,
             dsp::TAU * s.ph4,
             dsp::TAU * s.twin,
-        );
+        ];
+        frame_block::store(x, k * 6, turns);
         s = bell_next(s, osc::phase_step(pitch.at(lane, from + k), srf));
-        k += 1;
     }
     s
 }
@@ -125,10 +115,8 @@ fn mix(
     requires { (n ≤ 64) × (from + n ≤ length out.old) }
     ensures { out.new ≡ stored (bell_mix_at s.now e0.now e1.now e2.now e3.now e4.now) from n out.old }
 {
-    let mut k = 0usize;
-    while k < n {
+    for k in 0..n {
         out[from + k] = bell_mix(s, e0, e1, e2, e3, e4, k);
-        k += 1;
     }
 }
 
@@ -222,13 +210,11 @@ pub fn bell_note(pitch: Reading, lane: &[f32], srf: f32, out: &mut [f32])
         ph4: 0.0,
         twin: 0.0,
     };
-    let mut i = 0usize;
-    while i < out.len() {
+    for i in (0..out.len()).step_by(64) {
         let end = frame_block::block_end(i, out.len());
         state = bell_block(
             pitch, lane, srf, i, end, state, &mut x, &mut near, &mut q, &mut wide, &mut s, &mut e0,
             &mut e1, &mut e2, &mut e3, &mut e4, out,
         );
-        i = end;
     }
 }

@@ -12,7 +12,7 @@ use Rattle.brass_opening.specs.Opening.{opening_at}
 use Rattle.voice_brass.specs.Brass.{c0·996, c1·004, brass_at, brass_start, brass_frames}
 use Rattle.voice_brass.specs.Block.{brass_by}
 use Rattle.voice_brass.specs.declared.BrassState.{BrassState}
-use Rattle.voice_brass.specs.declared.BrassOut.{BrassOut}
+use Rattle.osc.specs.declared.Out.{Out}
 
 module _ (a fi srf : Float) where
   pub brass_frame :
@@ -23,7 +23,7 @@ module _ (a fi srf : Float) where
       low ≡ wrapped (s.low ⊕ f ⊗ c0·996 ⊘ srf) →
       high ≡ wrapped (s.high ⊕ f ⊗ c1·004 ⊘ srf) →
       let lp = s.lp ⊕ a ⊗ ((c0 ⊕ lowSaw ⊕ highSaw) ⊗ c0·5 ⊖ s.lp) in
-      ◌≡◌ {A = BrassOut} (record { sample = lp; state = record { low = low; high = high; lp = lp } }) (brass_by a fi srf s)
+      ◌≡◌ {A = (Out BrassState)} (record { sample = lp; state = record { low = low; high = high; lp = lp } }) (brass_by a fi srf s)
   unfolding brass_by
   brass_frame s b c d e g = rw (g, e, d, c, b)
 

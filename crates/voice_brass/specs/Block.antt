@@ -6,10 +6,10 @@ use Rattle.ieee.specs.Order.{max_of}
 use Rattle.osc.specs.Osc.{saw_of}
 use Rattle.osc.specs.Phase.{wrapped}
 use Rattle.voice_brass.specs.declared.BrassState.{BrassState}
-use Rattle.voice_brass.specs.declared.BrassOut.{BrassOut}
+use Rattle.osc.specs.declared.Out.{Out}
 use Rattle.voice_brass.specs.Brass.{c0·996, c1·004}
 
-unfoldable pub brass_by : Float → Float → Float → BrassState → BrassOut
+unfoldable pub brass_by : Float → Float → Float → BrassState → Out BrassState
 brass_by a fi srf s =
     let lowDt = max_of fi c0 ⊗ c0·996 ⊘ srf in
     let highDt = max_of fi c0 ⊗ c1·004 ⊘ srf in

@@ -12,7 +12,7 @@ use Rattle.osc.specs.Osc.{saw_of}
 use Rattle.osc.specs.Phase.{wrapped, seconds}
 use Rattle.brass_opening.specs.Opening.{c0·07, c800, c1400}
 use Rattle.voice_brass.specs.declared.BrassState.{BrassState}
-use Rattle.voice_brass.specs.declared.BrassOut.{BrassOut}
+use Rattle.osc.specs.declared.Out.{Out}
 
 -- 0.996
 abbrev pub c0·996 : Float
@@ -22,7 +22,7 @@ c0·996 = of_bits binary32 0x3f7ef9db
 abbrev pub c1·004 : Float
 c1·004 = of_bits binary32 0x3f808312
 
-unfoldable pub brass_at : Float → Float → Float → ℕ → BrassState → BrassOut
+unfoldable pub brass_at : Float → Float → Float → ℕ → BrassState → Out BrassState
 brass_at fi gain srf i s =
     let t = seconds srf i in
     let lowDt = max_of fi c0 ⊗ c0·996 ⊘ srf in

@@ -4,15 +4,14 @@
 // in order.
 #![tactic(auto)]
 
-ghost use Rattle.std.specs.Prelude.{◌≡◌, ◌+◌, ◌-◌, ◌≤◌, ◌<◌, length, get_or};
-ghost use Rattle.std.specs.Float.{nan};
-ghost use Rattle.blocks.proofs.Carried.{Carried};
+ghost use Rattle.std.specs.Prelude.{◌≡◌, length};
 ghost use Rattle.dsl.specs.Domain.{Frames};
 ghost use Rattle.dsl.specs.Pitch.{pitch_at, reaches};
 ghost use Rattle.voice_brass.specs.Brass.{brass_frames};
 ghost use Rattle.voice_brass.specs.Block.{brass_by};
 
 use dsl::Reading;
+use osc::Out;
 
 // The phases of the saws, spread so that the onset is no click, and the filter's memory.
 #[derive(Clone, Copy)]
@@ -22,14 +21,8 @@ struct BrassState {
     lp: f32,
 }
 
-#[derive(Clone, Copy)]
-struct BrassOut {
-    sample: f32,
-    state: BrassState,
-}
-
 // A frame, its filter opened by a.
-fn brass_by(a: f32, fi: f32, srf: f32, s: BrassState) -> BrassOut
+fn brass_by(a: f32, fi: f32, srf: f32, s: BrassState) -> Out<BrassState>
     ensures { result ≡ brass_by a fi srf s }
 {
     let f = float::max_f32(fi, 0.0);
@@ -39,37 +32,10 @@ fn brass_by(a: f32, fi: f32, srf: f32, s: BrassState) -> BrassOut
     let low = osc::wrap(s.low + low_dt);
     let high = osc::wrap(s.high + high_dt);
     let lp = s.lp + a * (sum * 0.5 - s.lp);
-    BrassOut {
+    Out {
         sample: lp,
         state: BrassState { low, high, lp },
     }
-}
-
-// The frames of a block, whose openings are a, from the state before it; hands back the state after it.
-fn brass_block(
-    a: &[f32; 64],
-    pitch: Reading,
-    lane: &[f32],
-    srf: f32,
-    from: usize,
-    end: usize,
-    start: BrassState,
-    out: &mut [f32],
-) -> BrassState
-    requires from_le_end { (from ≤ end) × (end ≤ from + 64) × (end ≤ length out.old) }
-    requires reaches { reaches pitch (length lane.now) end }
-    ensures { Carried (λ i. brass_by (get_or a.now (i - from) nan) (pitch_at pitch lane.now i) srf) (λ o. o.sample) (λ o. o.state)
-        from end out.old start out.new result }
-{
-    let mut s = start;
-    let mut i = from;
-    while i < end {
-        let r = brass_by(a[i - from], pitch.at(lane, i), srf, s);
-        out[i] = r.sample;
-        s = r.state;
-        i += 1;
-    }
-    s
 }
 
 // In blocks of 64 frames: the openings first, and then the frames that they filter.
@@ -84,11 +50,11 @@ pub fn brass_note(pitch: Reading, lane: &[f32], gain: f32, srf: f32, out: &mut [
         lp: 0.0,
     };
     let mut a = [0.0f32; 64];
-    let mut i = 0usize;
-    while i < out.len() {
+    for i in (0..out.len()).step_by(64) {
         let end = frame_block::block_end(i, out.len());
         brass_opening::openings(gain, srf, i, end, &mut a);
-        s = brass_block(&a, pitch, lane, srf, i, end, s, out);
-        i = end;
+        s = frame_block::frames(i, end, s, out, |k, s| {
+            brass_by(a[k - i], pitch.at(lane, k), srf, s)
+        });
     }
 }

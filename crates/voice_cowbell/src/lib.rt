@@ -43,12 +43,10 @@ fn turns(pitch: Reading, lane: &[f32], srf: f32, from: usize, n: usize, x: &mut 
     ensures x_len { length x.new ≡ 384 }
     ensures rows { Rows 2 (λ k. cowbell_turns (pitch_at pitch lane.now (from + k)) srf (from + k)) nan n x.new }
 {
-    let mut k = 0usize;
-    while k < n {
+    for k in 0..n {
         let f = float::max_f32(pitch.at(lane, from + k), 20.0);
         let t = osc::frame_time(from + k, srf);
-        frame_block::store2(x, k * 2, dsp::TAU * f * t, dsp::TAU * f * 1.565 * t);
-        k += 1;
+        frame_block::store(x, k * 2, [dsp::TAU * f * t, dsp::TAU * f * 1.565 * t]);
     }
 }
 
@@ -57,10 +55,8 @@ fn driven(s: &[f32; 384], n: usize, x: &mut [f32; 384])
     requires { (n ≤ 384) × (length x.old ≡ 384) }
     ensures { (length x.new ≡ 384) × Tabled (λ j. c2·5 ⊗ get_or s.now j nan) nan 0 n x.new }
 {
-    let mut j = 0usize;
-    while j < n {
+    for j in 0..n {
         x[j] = 2.5 * s[j];
-        j += 1;
     }
 }
 
@@ -69,10 +65,8 @@ fn mix(s: &[f32; 384], e: &[f32; 64], n: usize, z: &mut [f32; 64])
     requires { (n ≤ 64) × (length z.old ≡ 64) }
     ensures { (length z.new ≡ 64) × Tabled (cowbell_mix_at s.now e.now) nan 0 n z.new }
 {
-    let mut k = 0usize;
-    while k < n {
+    for k in 0..n {
         z[k] = mixed(s, e, k);
-        k += 1;
     }
 }
 
@@ -132,10 +126,8 @@ fn store(z: &[f32; 64], from: usize, n: usize, out: &mut [f32])
     requires { (n ≤ 64) × (from + n ≤ length out.old) }
     ensures { out.new ≡ stored (λ k. get_or z.now k nan) from n out.old }
 {
-    let mut k = 0usize;
-    while k < n {
+    for k in 0..n {
         out[from + k] = z[k];
-        k += 1;
     }
 }
 
@@ -151,13 +143,11 @@ pub fn cowbell(pitch: Reading, lane: &[f32], srf: f32, out: &mut [f32])
     let mut s = [0.0f32; 384];
     let mut e = [0.0f32; 64];
     let mut z = [0.0f32; 64];
-    let mut i = 0usize;
-    while i < out.len() {
+    for i in (0..out.len()).step_by(64) {
         let end = frame_block::block_end(i, out.len());
         cowbell_block(
             pitch, lane, srf, i, end, &mut x, &mut near, &mut q, &mut wide, &mut s, &mut e, &mut z,
         );
         store(&z, i, end - i, out);
-        i = end;
     }
 }

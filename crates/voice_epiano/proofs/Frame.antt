@@ -10,7 +10,7 @@ use Rattle.frame_block.specs.Decay.{decay_at}
 use Rattle.voice_epiano.specs.Epiano.{c0·035, bent_of, epiano_at}
 use Rattle.voice_epiano.specs.Block.{body_turn, tine_turn, epiano_mix, epiano_next}
 use Rattle.voice_epiano.specs.declared.EpianoState.{EpianoState}
-use Rattle.voice_epiano.specs.declared.EpianoOut.{EpianoOut}
+use Rattle.osc.specs.declared.Out.{Out}
 
 module _ (fi gain srf decay : Float) (i : ℕ) (s : EpianoState) where
   pub epiano_sample :
@@ -47,7 +47,7 @@ module _ (fi gain srf decay : Float) (i : ℕ) (s : EpianoState) where
       fade ≡ exp_of (neg t ⊘ decay) →
       y ≡ epiano_mix body tine fade →
       s' ≡ epiano_next s dt →
-      ◌≡◌ {A = EpianoOut} (record { sample = y; state = s' }) (epiano_at fi gain srf decay i s)
+      ◌≡◌ {A = (Out EpianoState)} (record { sample = y; state = s' }) (epiano_at fi gain srf decay i s)
   epiano_frame {t = now} {y = y} {s' = s'} dt t m soft bodyBy body p ping tineBy tine fade mix next =
       let by : (d : Float) → exp_of (neg now ⊘ d) ≡ decay_at srf d i = λ d. ap (λ (u : Float). exp_of (neg u ⊘ d)) t in
       let sample : y ≡ (epiano_at fi gain srf decay i s).sample =

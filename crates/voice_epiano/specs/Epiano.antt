@@ -9,7 +9,7 @@ use Rattle.ieee.specs.Order.{max_of, clamp_of}
 use Rattle.dsp.specs.Kernels.{TAU, sin_of, exp_of}
 use Rattle.osc.specs.Phase.{wrapped, increment, seconds}
 use Rattle.voice_epiano.specs.declared.EpianoState.{EpianoState}
-use Rattle.voice_epiano.specs.declared.EpianoOut.{EpianoOut}
+use Rattle.osc.specs.declared.Out.{Out}
 
 -- 0.035
 abbrev pub c0·035 : Float
@@ -43,7 +43,7 @@ bent_of carrier index modulator = sin_of (TAU ⊗ carrier ⊕ index ⊗ sin_of (
 unfoldable pub epiano_decay : Float → Float
 epiano_decay first = clamp_of (c5 ⊘ (c1 ⊕ max_of first c20 ⊘ c250)) c0·3 c4
 
-unfoldable pub epiano_at : Float → Float → Float → Float → ℕ → EpianoState → EpianoOut
+unfoldable pub epiano_at : Float → Float → Float → Float → ℕ → EpianoState → Out EpianoState
 epiano_at fi gain srf decay i s =
     let dt = increment fi srf in
     let t = seconds srf i in

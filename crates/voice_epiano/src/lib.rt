@@ -26,13 +26,6 @@ pub struct EpianoState {
     pub tph: f32,
 }
 
-// A frame of the definition.
-#[derive(Clone, Copy)]
-pub struct EpianoOut {
-    pub sample: f32,
-    pub state: EpianoState,
-}
-
 // The carrier's turn c, bent by the body's inner sine m.
 pub fn body_turn(gain: f32, c: f32, soft: f32, m: f32) -> f32
     ensures { result ≡ body_turn gain c soft m }
@@ -41,7 +34,8 @@ pub fn body_turn(gain: f32, c: f32, soft: f32, m: f32) -> f32
     c + body_idx * m
 }
 
-// The carrier's turn c, bent by the tine's inner sine m.
+// The carrier's turn c, bent by the tine's inner sine m. It stays beside `body_turn`: one function of both would take the
+// two numbers, and a name for each would still have to say them.
 pub fn tine_turn(gain: f32, c: f32, ping: f32, m: f32) -> f32
     ensures { result ≡ tine_turn gain c ping m }
 {
@@ -109,12 +103,10 @@ fn phases(
     ensures value { result ≡ epiano_reached (pitch_at pitch lane.now) srf from start n }
 {
     let mut s = start;
-    let mut k = 0usize;
-    while k < n {
-        frame_block::store2(x, k * 2, dsp::TAU * s.mph, dsp::TAU * s.tph);
+    for k in 0..n {
+        frame_block::store(x, k * 2, [dsp::TAU * s.mph, dsp::TAU * s.tph]);
         c[k] = dsp::TAU * s.cph;
         s = epiano_next(s, osc::phase_step(pitch.at(lane, from + k), srf));
-        k += 1;
     }
     s
 }
@@ -132,12 +124,10 @@ fn bend(
     requires { (n ≤ 64) × (length x.old ≡ 384) }
     ensures { (length x.new ≡ 384) × Rows 2 (outer_turns_at gain c.now soft.now ping.now s.now) nan n x.new }
 {
-    let mut k = 0usize;
-    while k < n {
+    for k in 0..n {
         let body = body_turn_at(gain, c, soft, s, k);
         let tine = tine_turn_at(gain, c, ping, s, k);
-        frame_block::store2(x, k * 2, body, tine);
-        k += 1;
+        frame_block::store(x, k * 2, [body, tine]);
     }
 }
 
@@ -146,10 +136,8 @@ fn mix(s: &[f32; 384], fade: &[f32; 64], from: usize, n: usize, out: &mut [f32])
     requires { (n ≤ 64) × (from + n ≤ length out.old) }
     ensures { out.new ≡ stored (epiano_mix_at s.now fade.now) from n out.old }
 {
-    let mut k = 0usize;
-    while k < n {
+    for k in 0..n {
         out[from + k] = epiano_mix_at(s, fade, k);
-        k += 1;
     }
 }
 
@@ -243,14 +231,12 @@ fn sound_epiano(pitch: Reading, lane: &[f32], gain: f32, srf: f32, decay: f32, o
         mph: 0.0,
         tph: 0.0,
     };
-    let mut i = 0usize;
-    while i < out.len() {
+    for i in (0..out.len()).step_by(64) {
         let end = frame_block::block_end(i, out.len());
         state = epiano_block(
             pitch, lane, gain, srf, decay, i, end, state, &mut x, &mut near, &mut q, &mut wide,
             &mut s, &mut c, &mut soft, &mut ping, &mut fade, out,
         );
-        i = end;
     }
 }
 

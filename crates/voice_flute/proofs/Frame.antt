@@ -10,7 +10,7 @@ use Rattle.frame_block.specs.Decay.{decay_at}
 use Rattle.voice_flute.specs.Flute.{flute_at}
 use Rattle.voice_flute.specs.Block.{flute_next, flute_mix}
 use Rattle.voice_flute.specs.declared.FluteState.{FluteState}
-use Rattle.voice_flute.specs.declared.FluteOut.{FluteOut}
+use Rattle.osc.specs.declared.Out.{Out}
 
 module _ (fi gain srf lpA : Float) (i : ℕ) (s : FluteState) where
   abbrev pub after : FluteState
@@ -34,7 +34,7 @@ module _ (fi gain srf lpA : Float) (i : ℕ) (s : FluteState) where
       s' ≡ flute_next e fi srf lpA s →
       tone ≡ sin_of (TAU ⊗ s'.phase) →
       y ≡ flute_mix tone gain s'.lp →
-      ◌≡◌ {A = FluteOut} (record { sample = y; state = s' }) (flute_at fi gain srf lpA i s)
+      ◌≡◌ {A = (Out FluteState)} (record { sample = y; state = s' }) (flute_at fi gain srf lpA i s)
   flute_frame {s' = s'} a b c d g =
       let is : s' ≡ after = c ∙ rw (b, a) in
       let same : _ ≡ (flute_at fi gain srf lpA i s).sample = g ∙ flute_sample is d refl in

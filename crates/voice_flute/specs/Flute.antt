@@ -12,7 +12,7 @@ use Rattle.rng.specs.Draw.{bi_from}
 use Rattle.osc.specs.Phase.{wrapped, seconds}
 use Rattle.rng.specs.declared.Rng.{Rng}
 use Rattle.voice_flute.specs.declared.FluteState.{FluteState}
-use Rattle.voice_flute.specs.declared.FluteOut.{FluteOut}
+use Rattle.osc.specs.declared.Out.{Out}
 
 -- 0.02
 abbrev pub c0·02 : Float
@@ -30,7 +30,7 @@ rng_at state = record { 0 = state }
 abbrev pub flute_lowpass : Float → Float
 flute_lowpass srf = c1 ⊖ exp_of (neg TAU ⊗ c1200 ⊘ srf)
 
-unfoldable pub flute_at : Float → Float → Float → Float → ℕ → FluteState → FluteOut
+unfoldable pub flute_at : Float → Float → Float → Float → ℕ → FluteState → Out FluteState
 flute_at fi gain srf lpA i s =
     let t = seconds srf i in
     let depth = c0·006 ⊗ (c1 ⊖ exp_of (neg t ⊘ c0·15)) in

@@ -32,13 +32,6 @@ pub struct FluteState {
     pub rng: Rng,
 }
 
-// A frame of the definition.
-#[derive(Clone, Copy)]
-pub struct FluteOut {
-    pub sample: f32,
-    pub state: FluteState,
-}
-
 // The state after a frame, its vibrato faded in by the exponential e.
 pub fn flute_next(e: f32, fi: f32, srf: f32, lp_a: f32, s: FluteState) -> FluteState
     ensures { result ≡ flute_next e fi srf lp_a s }
@@ -98,13 +91,11 @@ fn states(
     ensures value { result ≡ flute_reached (pitch_at pitch lane.now) srf lp_a from start n }
 {
     let mut s = start;
-    let mut k = 0usize;
-    while k < n {
+    for k in 0..n {
         let next = flute_next(e[k], pitch.at(lane, from + k), srf, lp_a, s);
         x[k] = dsp::TAU * next.phase;
         b[k] = next.lp;
         s = next;
-        k += 1;
     }
     s
 }
@@ -114,10 +105,8 @@ fn mix(s: &[f32; 384], b: &[f32; 64], gain: f32, from: usize, n: usize, out: &mu
     requires { (n ≤ 64) × (from + n ≤ length out.old) }
     ensures { out.new ≡ stored (flute_mix_at s.now b.now gain) from n out.old }
 {
-    let mut k = 0usize;
-    while k < n {
+    for k in 0..n {
         out[from + k] = flute_mix_at(s, b, gain, k);
-        k += 1;
     }
 }
 
@@ -186,14 +175,12 @@ pub fn flute_note(
         lp: 0.0,
         rng,
     };
-    let mut i = 0usize;
-    while i < out.len() {
+    for i in (0..out.len()).step_by(64) {
         let end = frame_block::block_end(i, out.len());
         state = flute_block(
             pitch, lane, gain, srf, lp_a, i, end, state, &mut x, &mut near, &mut q, &mut wide,
             &mut s, &mut e, &mut b, out,
         );
-        i = end;
     }
     state.rng
 }

@@ -19,7 +19,7 @@ use Rattle.frame_block.specs.Decay.{decay_at}
 use Rattle.voice_mallet.specs.Mallet.{mallet_at}
 use Rattle.voice_mallet.specs.Block.{mallet_next, mallet_reached, mallet_turns, mallet_mix, mallet_mix_at}
 use Rattle.voice_mallet.specs.declared.MalletState.{MalletState}
-use Rattle.voice_mallet.specs.declared.MalletOut.{MalletOut}
+use Rattle.osc.specs.declared.Out.{Out}
 
 pub mallet_sample :
     (fi gain srf : Float) (i : ℕ) (s : MalletState) {s0 s1 s2 e1 e2 : Float} →
@@ -34,7 +34,7 @@ mallet_sample fi gain srf i s a b c d e = rw (a, b, c, d, e)
 
 pub mallet_frame :
     (fi gain srf : Float) (i : ℕ) (s : MalletState) {y : Float} {t : MalletState} → y ≡ (mallet_at fi gain srf i s).sample → t ≡ mallet_next s (increment fi srf)
-    → ◌≡◌ {A = MalletOut} (record { sample = y; state = t }) (mallet_at fi gain srf i s)
+    → ◌≡◌ {A = (Out MalletState)} (record { sample = y; state = t }) (mallet_at fi gain srf i s)
 unfolding mallet_at mallet_next
 mallet_frame fi gain srf i s a b = rw (a, b)
 

@@ -8,7 +8,7 @@ use Rattle.ieee.specs.Binary32.{◌⊕◌, ◌⊗◌, ◌⊘◌}
 use Rattle.dsp.specs.Kernels.{TAU, sin_of, exp_of}
 use Rattle.osc.specs.Phase.{wrapped, increment, seconds}
 use Rattle.voice_mallet.specs.declared.MalletState.{MalletState}
-use Rattle.voice_mallet.specs.declared.MalletOut.{MalletOut}
+use Rattle.osc.specs.declared.Out.{Out}
 
 -- 0.7
 abbrev pub c0·7 : Float
@@ -22,7 +22,7 @@ c3·9 = of_bits binary32 0x4079999a
 abbrev pub c9·2 : Float
 c9·2 = of_bits binary32 0x41133333
 
-unfoldable pub mallet_at : Float → Float → Float → ℕ → MalletState → MalletOut
+unfoldable pub mallet_at : Float → Float → Float → ℕ → MalletState → Out MalletState
 mallet_at fi gain srf i s =
     let bright = c0·4 ⊕ c0·6 ⊗ gain in
     let dt = increment fi srf in

@@ -24,13 +24,6 @@ pub struct MalletState {
     pub ph2: f32,
 }
 
-// A frame of the definition.
-#[derive(Clone, Copy)]
-pub struct MalletOut {
-    pub sample: f32,
-    pub state: MalletState,
-}
-
 // The sample by the sines s0 to s2 and the levels e1 and e2 of the strike partials.
 pub fn mallet_mix(gain: f32, s0: f32, s1: f32, s2: f32, e1: f32, e2: f32) -> f32
     ensures { result ≡ mallet_mix gain s0 s1 s2 e1 e2 }
@@ -75,17 +68,10 @@ fn phases(
     ensures value { result ≡ mallet_reached (pitch_at pitch lane.now) srf from start n }
 {
     let mut s = start;
-    let mut k = 0usize;
-    while k < n {
-        frame_block::store3(
-            x,
-            k * 3,
-            dsp::TAU * s.ph0,
-            dsp::TAU * s.ph1,
-            dsp::TAU * s.ph2,
-        );
+    for k in 0..n {
+        let turns = [dsp::TAU * s.ph0, dsp::TAU * s.ph1, dsp::TAU * s.ph2];
+        frame_block::store(x, k * 3, turns);
         s = mallet_next(s, osc::phase_step(pitch.at(lane, from + k), srf));
-        k += 1;
     }
     s
 }
@@ -103,10 +89,8 @@ fn mix(
     requires { (n ≤ 64) × (from + n ≤ length out.old) }
     ensures { out.new ≡ stored (mallet_mix_at gain s.now e1.now e2.now) from n out.old }
 {
-    let mut k = 0usize;
-    while k < n {
+    for k in 0..n {
         out[from + k] = mallet_mix_at(gain, s, e1, e2, k);
-        k += 1;
     }
 }
 
@@ -164,13 +148,11 @@ pub fn mallet_note(pitch: Reading, lane: &[f32], gain: f32, srf: f32, out: &mut 
         ph1: 0.0,
         ph2: 0.0,
     };
-    let mut i = 0usize;
-    while i < out.len() {
+    for i in (0..out.len()).step_by(64) {
         let end = frame_block::block_end(i, out.len());
         state = mallet_block(
             pitch, lane, gain, srf, i, end, state, &mut x, &mut near, &mut q, &mut wide, &mut s,
             &mut e1, &mut e2, out,
         );
-        i = end;
     }
 }

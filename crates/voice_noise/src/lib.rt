@@ -14,12 +14,10 @@ pub fn noise(rng: Rng, out: &mut [f32]) -> Rng
     ensures result_value { result.0 ≡ state_after rng.0 (length out.old) }
 {
     let mut rng = rng;
-    let mut i = 0usize;
-    while i < out.len() {
+    for i in 0..out.len() {
         let d = rng.bi();
         out[i] = d.value;
         rng = d.rng;
-        i += 1;
     }
     rng
 }

@@ -10,12 +10,12 @@ use Rattle.dsl.specs.Drawbars.{c0·22, c6, c8, BARS}
 use Rattle.dsp.specs.Kernels.{TAU, sin_of, exp_of}
 use Rattle.osc.specs.Phase.{wrapped, seconds}
 use Rattle.voice_organ.specs.Organ.{bar, organ_at, organ_frames}
-use Rattle.voice_organ.specs.declared.OrganOut.{OrganOut}
+use Rattle.osc.specs.declared.Out.{Out}
 
 abbrev pub original_norm : Float
 original_norm = c1 ⊘ (c0·45 ⊕ c1 ⊕ c0·45 ⊕ c0·3 ⊕ c0·22)
 
-abbrev pub original_at : Float → Float → ℕ → Float → OrganOut
+abbrev pub original_at : Float → Float → ℕ → Float → Out Float
 original_at fi srf i phase =
     let t = seconds srf i in
     let bars = c0 ⊕ bar phase c1 c0·45 ⊕ bar phase c2 c1 ⊕ bar phase c4 c0·45 ⊕ bar phase c6 c0·3 ⊕ bar phase c8 c0·22 in

@@ -10,7 +10,7 @@ use Rattle.dsp.specs.Kernels.{TAU, sin_of, exp_of}
 use Rattle.osc.specs.Phase.{seconds}
 use Rattle.voice_organ.specs.Block.{organ_next}
 use Rattle.voice_organ.specs.Organ.{organ_at}
-use Rattle.voice_organ.specs.declared.OrganOut.{OrganOut}
+use Rattle.osc.specs.declared.Out.{Out}
 
 module _ (b : Drawbars) (norm fi srf : Float) (i : ℕ) where
   pub organ_frame :
@@ -25,6 +25,6 @@ module _ (b : Drawbars) (norm fi srf : Float) (i : ℕ) where
       ping ≡ exp_of (neg t ⊘ c0·2) →
       next ≡ organ_next fi srf phase →
       let s = c0 ⊕ b.level1 ⊗ first ⊕ b.level2 ⊗ second ⊕ b.level3 ⊗ third ⊕ b.level4 ⊗ fourth ⊕ b.level5 ⊗ fifth ⊕ c0·5 ⊗ ping ⊗ sixth in
-      ◌≡◌ {A = OrganOut} (record { sample = s ⊗ norm; state = next }) (organ_at b norm fi srf i phase)
+      ◌≡◌ {A = (Out Float)} (record { sample = s ⊗ norm; state = next }) (organ_at b norm fi srf i phase)
   unfolding organ_at
   organ_frame phase a c d e g h j k l = rw (l, k, j, h, g, e, d, c, a)

@@ -10,7 +10,7 @@ use Rattle.dsl.specs.Drawbars.{c6}
 use Rattle.dsl.specs.declared.knobs.Drawbars.{Drawbars}
 use Rattle.dsp.specs.Kernels.{TAU, sin_of, exp_of}
 use Rattle.osc.specs.Phase.{wrapped, seconds}
-use Rattle.voice_organ.specs.declared.OrganOut.{OrganOut}
+use Rattle.osc.specs.declared.Out.{Out}
 
 -- a drawbar: g * sin(TAU * phase * k)
 abbrev pub bar : Float → Float → Float → Float
@@ -22,7 +22,7 @@ abbrev pub organ_norm : Drawbars → Float
 organ_norm b = c1 ⊘ (b.level1 ⊕ b.level2 ⊕ b.level3 ⊕ b.level4 ⊕ b.level5)
 
 -- "The fixed extra partial at 6 is kept": 0.5 * exp(-t / 0.2) * sin(TAU * phase * 6.0)
-unfoldable pub organ_at : Drawbars → Float → Float → Float → ℕ → Float → OrganOut
+unfoldable pub organ_at : Drawbars → Float → Float → Float → ℕ → Float → Out Float
 organ_at b norm fi srf i phase =
     let t = seconds srf i in
     let bars = c0 ⊕ bar phase b.ratio1 b.level1 ⊕ bar phase b.ratio2 b.level2 ⊕ bar phase b.ratio3 b.level3 ⊕ bar phase b.ratio4 b.level4

@@ -19,13 +19,6 @@ ghost use Rattle.voice_organ.specs.Block.{organ_turns, organ_sixth_turn, organ_m
 
 use dsl::{Drawbars, Reading};
 
-// A frame of the definition. The state is the phase at half the pitch.
-#[derive(Clone, Copy)]
-struct OrganOut {
-    sample: f32,
-    state: f32,
-}
-
 fn norm_of(bars: Drawbars) -> f32
     ensures { result ≡ organ_norm bars }
 {
@@ -82,20 +75,18 @@ fn phases(
     ensures value { result ≡ organ_reached (pitch_at pitch lane.now) srf from start n }
 {
     let mut s = start;
-    let mut k = 0usize;
-    while k < n {
+    for k in 0..n {
         let turn = dsp::TAU * s;
-        frame_block::store3(
-            x,
-            k * 5,
+        let turns = [
             turn * bars.ratio1,
             turn * bars.ratio2,
             turn * bars.ratio3,
-        );
-        frame_block::store2(x, k * 5 + 1 + 1 + 1, turn * bars.ratio4, turn * bars.ratio5);
+            turn * bars.ratio4,
+            turn * bars.ratio5,
+        ];
+        frame_block::store(x, k * 5, turns);
         y[k] = turn * 6.0;
         s = organ_next(pitch.at(lane, from + k), srf, s);
-        k += 1;
     }
     s
 }
@@ -105,10 +96,8 @@ fn fourths(s: &[f32; 384], n: usize, p: &mut [f32; 384])
     requires { (n ≤ 64) × (length p.old ≡ 384) }
     ensures { (length p.new ≡ 384) × Tabled (λ k. get_or s.now (k * 5 + 3) nan) nan 0 n p.new }
 {
-    let mut k = 0usize;
-    while k < n {
+    for k in 0..n {
         p[k] = s[k * 5 + 3];
-        k += 1;
     }
 }
 
@@ -150,10 +139,8 @@ fn mix(
     requires { (n ≤ 64) × (from + n ≤ length out.old) }
     ensures { out.new ≡ stored (organ_mix_at bars norm s.now p.now e.now) from n out.old }
 {
-    let mut k = 0usize;
-    while k < n {
+    for k in 0..n {
         out[from + k] = organ_mix(bars, norm, s, p, e, k);
-        k += 1;
     }
 }
 
@@ -211,13 +198,11 @@ pub fn organ_note(bars: Drawbars, pitch: Reading, lane: &[f32], srf: f32, out: &
     let mut p = [0.0f32; 384];
     let mut e = [0.0f32; 64];
     let mut state = 0.0f32;
-    let mut i = 0usize;
-    while i < out.len() {
+    for i in (0..out.len()).step_by(64) {
         let end = frame_block::block_end(i, out.len());
         state = organ_block(
             bars, norm, pitch, lane, srf, i, end, state, &mut x, &mut y, &mut near, &mut q,
             &mut wide, &mut s, &mut p, &mut e, out,
         );
-        i = end;
     }
 }

@@ -102,15 +102,13 @@ pub fn piano_partials(b: Blow, srf: f32) -> Partials
         phase1: 0.0,
     };
     let mut items = [none; 18];
-    let mut j = 0usize;
-    while j < 18 {
+    for j in 0..18 {
         let ratio = ratio_of(b.stretch, j + 1);
         if ratio * b.f0 > 0.45 * srf {
             return Partials { items, count: j };
         }
         let p = partial_of(b, srf, j + 1, ratio);
         items[j] = p;
-        j += 1;
     }
-    Partials { items, count: j }
+    Partials { items, count: 18 }
 }

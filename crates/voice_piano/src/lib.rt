@@ -10,5 +10,5 @@ mod piano; // piano.rt: the piano
 mod wires; // wires.rt: the strings of a piano note as they sound
 
 pub use hammer::{Blow, Partial, Partials};
-pub use piano::{PianoOut, PianoState, piano_note};
+pub use piano::{PianoState, piano_note};
 pub use wires::{Pair, PartialOut, WiresOut};

@@ -13,7 +13,8 @@ ghost use Rattle.counts.specs.Draws.{thumps, thump_frames, passing};
 use crate::hammer::{Partial, hammer_blow, piano_partials};
 use crate::wires::{Pair, amp_sum, string_pair, wires_at};
 use dsl::{PianoKnobs, Reading};
-use rng::{DrawF32, Rng};
+use osc::Out;
+use rng::{Draw, Rng};
 
 #[derive(Clone, Copy)]
 pub struct PianoState {
@@ -21,25 +22,19 @@ pub struct PianoState {
     pub rng: Rng,
 }
 
-#[derive(Clone, Copy)]
-pub struct PianoOut {
-    pub sample: f32,
-    pub state: PianoState,
-}
-
 // The thump of the felt hammer: soft noise for 6 milliseconds, and after that no draw.
-fn thump(t: f32, rng: Rng) -> DrawF32
+fn thump(t: f32, rng: Rng) -> Draw<f32>
     ensures { (result.value ≡ thump_of t rng.0) × (result.rng.0 ≡ thump_end t rng.0) }
 {
     if t < 0.006 {
         let d = rng.bi();
         let after = d.rng;
-        return DrawF32 {
+        return Draw {
             value: d.value * 0.3 * (1.0 - t / 0.006),
             rng: after,
         };
     }
-    DrawF32 { value: 0.0, rng }
+    Draw { value: 0.0, rng }
 }
 
 // A frame at the pitch `fi`, of the first `count` partials. The arrays are lent for their sines.
@@ -56,7 +51,7 @@ fn piano_at(
     q: &mut [f64; 384],
     wide: &mut [f64; 384],
     sines: &mut [f32; 384],
-) -> PianoOut
+) -> Out<PianoState>
     requires frames { Frames i }
     requires count_bound { count ≤ 18 }
     requires x_len { (length x.old ≡ 384) × (length near.old ≡ 384) × (length q.old ≡ 384) × (length wide.old ≡ 384) × (length sines.old ≡ 384) }
@@ -72,7 +67,7 @@ fn piano_at(
     let items = w.items;
     let rng = d.rng;
     let state = PianoState { items, rng };
-    PianoOut {
+    Out {
         sample: w.sum * norm + d.value,
         state,
     }
@@ -101,8 +96,7 @@ fn sound_piano(
     let mut wide = [0.0f64; 384];
     let mut sines = [0.0f32; 384];
     let mut s = start;
-    let mut i = 0usize;
-    while i < out.len() {
+    for i in 0..out.len() {
         let r = piano_at(
             pitch.at(lane, i),
             srf,
@@ -119,7 +113,6 @@ fn sound_piano(
         );
         out[i] = r.sample;
         s = r.state;
-        i += 1;
     }
     s.rng
 }

@@ -68,7 +68,7 @@ fn store_turns(x: &mut [f32; 384], j: usize, p: Partial)
     requires { (j < 18) × (length x.old ≡ 384) }
     ensures { x.new ≡ written x.old (j * 2) (turns_of p) }
 {
-    frame_block::store2(x, j * 2, dsp::TAU * p.phase0, dsp::TAU * p.phase1);
+    frame_block::store(x, j * 2, [dsp::TAU * p.phase0, dsp::TAU * p.phase1]);
 }
 
 // The arguments of the first `count` partials' sines, two for each.
@@ -76,11 +76,9 @@ fn turns(items: [Partial; 18], count: usize, x: &mut [f32; 384])
     requires { (count ≤ 18) × (length x.old ≡ 384) }
     ensures { (length x.new ≡ 384) × Rows 2 (λ j. turns_of (slice_index_or items j no_partial)) nan count x.new }
 {
-    let mut j = 0usize;
-    while j < count {
+    for j in 0..count {
         let p = items[j];
         store_turns(x, j, p);
-        j += 1;
     }
 }
 
@@ -93,14 +91,12 @@ fn wires_by(items: [Partial; 18], count: usize, dt: f32, det: Pair, s: &[f32; 38
 {
     let mut parts = items;
     let mut sum = 0.0f32;
-    let mut j = 0usize;
-    while j < count {
+    for j in 0..count {
         let p = parts[j];
         let r = partial_at(p, dt, det, sum, s[j * 2], s[j * 2 + 1]);
         let q = r.partial;
         parts[j] = q;
         sum = r.sum;
-        j += 1;
     }
     WiresOut { sum, items: parts }
 }
@@ -133,11 +129,9 @@ pub fn amp_sum(items: [Partial; 18], count: usize) -> f32
     ensures { result ≡ foldl amp_added (neg c0) (take count items) }
 {
     let mut sum = -0.0f32;
-    let mut j = 0usize;
-    while j < count {
+    for j in 0..count {
         let p = items[j];
         sum = sum + p.amp;
-        j += 1;
     }
     sum
 }

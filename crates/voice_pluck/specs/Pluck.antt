@@ -11,12 +11,12 @@ use Rattle.voice_noise.specs.Noise.{noise_frames}
 use Rattle.voice_pluck.specs.Guitar.{timbre_of, all_rung}
 use Rattle.voice_pluck.specs.declared.guitar.Timbre.{Timbre}
 use Rattle.voice_pluck.specs.declared.pluck.Pick.{Pick}
-use Rattle.voice_pluck.specs.declared.pluck.PickOut.{PickOut}
+use Rattle.osc.specs.declared.Out.{Out}
 use Rattle.voice_pluck.specs.declared.pluck.PluckState.{PluckState}
 use Rattle.voice_pluck.specs.declared.pluck.PluckOut.{PluckOut}
 
 -- "Pick click: the highpassed leading edge of the excitation"
-unfoldable pub picked : Float → Float → Float → Pick → PickOut
+unfoldable pub picked : Float → Float → Float → Pick → Out Pick
 picked amount t y s =
     cond (lt t c0·008)
     (let hp = c0·9 ⊗ (s.hp_out ⊕ y ⊖ s.hp_in) in

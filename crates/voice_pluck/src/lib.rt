@@ -8,4 +8,4 @@ mod guitar; // guitar.rt: the tone of a note, and the resonances of the body
 mod pluck; // pluck.rt: the plucked string
 
 pub use guitar::{Echo, Echoes, Mode, Timbre};
-pub use pluck::{Pick, PickOut, PluckOut, PluckState, pluck_note};
+pub use pluck::{Pick, PluckOut, PluckState, pluck_note};

@@ -11,6 +11,7 @@ ghost use Rattle.voice_pluck.specs.Pluck.{picked, plucked, at_rest, ring_frames,
 
 use crate::guitar::{Echo, Echoes, Timbre, guitar_timbre, ring_all};
 use dsl::{PluckKnobs, Reading};
+use osc::Out;
 use rng::Rng;
 
 // What the pick's highpass holds: its last input and output.
@@ -18,12 +19,6 @@ use rng::Rng;
 pub struct Pick {
     pub hp_in: f32,
     pub hp_out: f32,
-}
-
-#[derive(Clone, Copy)]
-pub struct PickOut {
-    pub sample: f32,
-    pub state: Pick,
 }
 
 // What a frame hands to the next, beside the string.
@@ -43,7 +38,7 @@ pub struct PluckOut {
 }
 
 // The pick's click, of the first 8 milliseconds; later the highpass rests.
-fn click(amount: f32, t: f32, y: f32, s: Pick) -> PickOut
+fn click(amount: f32, t: f32, y: f32, s: Pick) -> Out<Pick>
     ensures { result ≡ picked amount t y s }
 {
     if t < 0.008 {
@@ -52,12 +47,12 @@ fn click(amount: f32, t: f32, y: f32, s: Pick) -> PickOut
             hp_in: y,
             hp_out: hp,
         };
-        return PickOut {
+        return Out {
             sample: amount * hp * (1.0 - t / 0.008),
             state,
         };
     }
-    PickOut {
+    Out {
         sample: 0.0,
         state: s,
     }
@@ -131,15 +126,13 @@ fn ring_string(k: PluckKnobs, g: Timbre, srf: f32, string: &mut [f32], out: &mut
 {
     let mut s = at_rest();
     let mut spos = 0usize;
-    let mut i = 0usize;
-    while i < out.len() {
+    for i in 0..out.len() {
         let after = turn(spos, string.len());
         let r = pluck_at(k, g, srf, i, string[spos], string[after], s);
         string[spos] = r.string;
         out[i] = r.sample;
         spos = after;
         s = r.state;
-        i += 1;
     }
 }
 

@@ -12,7 +12,7 @@ use Rattle.frame_block.specs.Decay.{decay_at}
 use Rattle.voice_strings.specs.Strings.{c0·99539, c1·00463, strings_lowpass, strings_at, strings_start, strings_frames}
 use Rattle.voice_strings.specs.Block.{strings_by}
 use Rattle.voice_strings.specs.declared.StringsState.{StringsState}
-use Rattle.voice_strings.specs.declared.StringsOut.{StringsOut}
+use Rattle.osc.specs.declared.Out.{Out}
 
 module _ (e fi srf lpA : Float) where
   pub strings_frame :
@@ -25,7 +25,7 @@ module _ (e fi srf lpA : Float) where
       mid ≡ wrapped (s.mid ⊕ f ⊗ c1 ⊘ srf) →
       high ≡ wrapped (s.high ⊕ f ⊗ c1·00463 ⊘ srf) →
       let lp = s.lp ⊕ lpA ⊗ ((c0 ⊕ lowSaw ⊕ midSaw ⊕ highSaw) ⊘ c3 ⊖ s.lp) in
-      ◌≡◌ {A = StringsOut} (record { sample = lp ⊗ (c1 ⊖ e); state = record { low = low; mid = mid; high = high; lp = lp } }) (strings_by e fi srf lpA s)
+      ◌≡◌ {A = (Out StringsState)} (record { sample = lp ⊗ (c1 ⊖ e); state = record { low = low; mid = mid; high = high; lp = lp } }) (strings_by e fi srf lpA s)
   unfolding strings_by
   strings_frame s b c d g h j k = rw (k, j, h, g, d, c, b)
 

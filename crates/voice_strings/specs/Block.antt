@@ -6,10 +6,10 @@ use Rattle.ieee.specs.Order.{max_of}
 use Rattle.osc.specs.Osc.{saw_of}
 use Rattle.osc.specs.Phase.{wrapped}
 use Rattle.voice_strings.specs.declared.StringsState.{StringsState}
-use Rattle.voice_strings.specs.declared.StringsOut.{StringsOut}
+use Rattle.osc.specs.declared.Out.{Out}
 use Rattle.voice_strings.specs.Strings.{c0·99539, c1·00463}
 
-unfoldable pub strings_by : Float → Float → Float → Float → StringsState → StringsOut
+unfoldable pub strings_by : Float → Float → Float → Float → StringsState → Out StringsState
 strings_by e fi srf lpA s =
     let lowDt = max_of fi c0 ⊗ c0·99539 ⊘ srf in
     let midDt = max_of fi c0 ⊗ c1 ⊘ srf in

@@ -10,7 +10,7 @@ use Rattle.dsp.specs.Kernels.{TAU, exp_of}
 use Rattle.osc.specs.Osc.{saw_of}
 use Rattle.osc.specs.Phase.{wrapped, seconds}
 use Rattle.voice_strings.specs.declared.StringsState.{StringsState}
-use Rattle.voice_strings.specs.declared.StringsOut.{StringsOut}
+use Rattle.osc.specs.declared.Out.{Out}
 
 -- 0.33
 abbrev pub c0·33 : Float
@@ -36,7 +36,7 @@ c3000 = of_bits binary32 0x453b8000
 abbrev pub strings_lowpass : Float → Float
 strings_lowpass srf = c1 ⊖ exp_of (neg TAU ⊗ c3000 ⊘ srf)
 
-unfoldable pub strings_at : Float → Float → Float → ℕ → StringsState → StringsOut
+unfoldable pub strings_at : Float → Float → Float → ℕ → StringsState → Out StringsState
 strings_at fi srf lpA i s =
     let t = seconds srf i in
     let lowDt = max_of fi c0 ⊗ c0·99539 ⊘ srf in

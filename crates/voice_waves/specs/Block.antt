@@ -12,25 +12,24 @@ use Rattle.osc.specs.Osc.{saw_of, osc_of}
 use Rattle.osc.specs.Phase.{wrapped, increment}
 use Rattle.osc.specs.declared.Shape.TheVariants.{Sine}
 use Rattle.voice_waves.specs.Pulse.{c0·9995, pulse_of}
-use Rattle.voice_waves.specs.declared.plain.PhaseOut.{PhaseOut}
+use Rattle.osc.specs.declared.Out.{Out}
 use Rattle.voice_waves.specs.declared.pulse.TriangleState.{TriangleState}
-use Rattle.voice_waves.specs.declared.pulse.TriangleOut.{TriangleOut}
 use Rattle.voice_waves.specs.declared.modulated.FmState.{FmState}
 
-unfoldable pub sawtooth_by : Float → Float → PhaseOut
+unfoldable pub sawtooth_by : Float → Float → Out Float
 sawtooth_by dt phase = record { sample = saw_of phase dt; state = wrapped (phase ⊕ dt) }
 
-unfoldable pub sine_by : Float → Float → PhaseOut
+unfoldable pub sine_by : Float → Float → Out Float
 sine_by dt phase = record { sample = osc_of Sine phase; state = wrapped (phase ⊕ dt) }
 
 pub record PulseRead : Type 0 where
   pub step : Float
   pub width : Float
 
-unfoldable pub square_by : PulseRead → Float → PhaseOut
+unfoldable pub square_by : PulseRead → Float → Out Float
 square_by x phase = record { sample = pulse_of phase x.width (fract_of binary32 (phase ⊖ x.width ⊕ c1)) x.step; state = wrapped (phase ⊕ x.step) }
 
-unfoldable pub triangle_by : Float → TriangleState → TriangleOut
+unfoldable pub triangle_by : Float → TriangleState → Out TriangleState
 triangle_by dt s =
     let sq = pulse_of s.phase c0·5 (fract_of binary32 (s.phase ⊕ c0·5)) dt in
     let tri = s.tri ⊗ c0·9995 ⊕ c4 ⊗ dt ⊗ sq in

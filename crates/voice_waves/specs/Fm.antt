@@ -9,7 +9,7 @@ use Rattle.dsl.specs.declared.knobs.FmKnobs.{FmKnobs}
 use Rattle.dsp.specs.Kernels.{TAU, sin_of, exp_of}
 use Rattle.osc.specs.Phase.{wrapped, increment, seconds}
 use Rattle.voice_waves.specs.declared.modulated.FmState.{FmState}
-use Rattle.voice_waves.specs.declared.modulated.FmOut.{FmOut}
+use Rattle.osc.specs.declared.Out.{Out}
 
 -- idx
 unfoldable pub fm_index : FmKnobs → Float → Float → ℕ → Float
@@ -17,7 +17,7 @@ fm_index knobs gain srf i =
     let t = seconds srf i in
     knobs.fm_index ⊗ (c0·4 ⊕ c0·6 ⊗ gain) ⊗ exp_of (neg t ⊘ max_of knobs.fm_strike c0·001)
 
-unfoldable pub fm_at : Float → FmKnobs → Float → Float → ℕ → FmState → FmOut
+unfoldable pub fm_at : Float → FmKnobs → Float → Float → ℕ → FmState → Out FmState
 fm_at fi knobs gain srf i s =
     let dt = increment fi srf in
     let m = fm_index knobs gain srf i ⊗ sin_of (TAU ⊗ s.mph) in

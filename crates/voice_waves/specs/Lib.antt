@@ -2,3 +2,4 @@ pub mod Plain
 pub mod Pulse
 pub mod Fm
 pub mod Block
+pub mod Stepped

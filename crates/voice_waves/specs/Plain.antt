@@ -6,9 +6,9 @@ use Rattle.ieee.specs.Binary32.{◌⊕◌}
 use Rattle.osc.specs.Osc.{saw_of, osc_of}
 use Rattle.osc.specs.Phase.{wrapped, increment}
 use Rattle.osc.specs.declared.Shape.TheVariants.{Sine}
-use Rattle.voice_waves.specs.declared.plain.PhaseOut.{PhaseOut}
+use Rattle.osc.specs.declared.Out.{Out}
 
-unfoldable pub sawtooth_at : Float → Float → Float → PhaseOut
+unfoldable pub sawtooth_at : Float → Float → Float → Out Float
 sawtooth_at fi srf phase =
     let dt = increment fi srf in
     record { sample = saw_of phase dt; state = wrapped (phase ⊕ dt) }
@@ -16,7 +16,7 @@ sawtooth_at fi srf phase =
 unfoldable pub sawtooth_frames : (ℕ → Float) → Float → ℕ → List Float
 sawtooth_frames f srf n = samples (λ i. sawtooth_at (f i) srf) (λ r. r.sample) (λ r. r.state) c0 n
 
-unfoldable pub sine_at : Float → Float → Float → PhaseOut
+unfoldable pub sine_at : Float → Float → Float → Out Float
 sine_at fi srf phase = record { sample = osc_of Sine phase; state = wrapped (phase ⊕ increment fi srf) }
 
 unfoldable pub sine_frames : (ℕ → Float) → Float → ℕ → List Float

@@ -9,9 +9,8 @@ use Rattle.ieee.specs.Order.{clamp_of}
 use Rattle.ieee.specs.Whole.{fract_of}
 use Rattle.osc.specs.Osc.{poly_blep}
 use Rattle.osc.specs.Phase.{wrapped, increment}
-use Rattle.voice_waves.specs.declared.plain.PhaseOut.{PhaseOut}
+use Rattle.osc.specs.declared.Out.{Out}
 use Rattle.voice_waves.specs.declared.pulse.TriangleState.{TriangleState}
-use Rattle.voice_waves.specs.declared.pulse.TriangleOut.{TriangleOut}
 
 -- 0.99
 abbrev pub c0·99 : Float
@@ -29,7 +28,7 @@ pulse_level phase duty = cond (lt phase duty) c1 (neg c1)
 unfoldable pub pulse_of : Float → Float → Float → Float → Float
 pulse_of phase duty second dt = pulse_level phase duty ⊕ poly_blep phase dt ⊖ poly_blep second dt
 
-unfoldable pub square_at : Float → Float → Float → Float → PhaseOut
+unfoldable pub square_at : Float → Float → Float → Float → Out Float
 square_at fi di srf phase =
     let dt = increment fi srf in
     let duty = clamp_of di c0·01 c0·99 in
@@ -38,7 +37,7 @@ square_at fi di srf phase =
 unfoldable pub square_frames : (ℕ → Float) → (ℕ → Float) → Float → ℕ → List Float
 square_frames f d srf n = samples (λ i. square_at (f i) (d i) srf) (λ r. r.sample) (λ r. r.state) c0 n
 
-unfoldable pub triangle_at : Float → Float → TriangleState → TriangleOut
+unfoldable pub triangle_at : Float → Float → TriangleState → Out TriangleState
 triangle_at fi srf s =
     let dt = increment fi srf in
     let sq = pulse_of s.phase c0·5 (fract_of binary32 (s.phase ⊕ c0·5)) dt in

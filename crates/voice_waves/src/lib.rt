@@ -5,6 +5,7 @@
 mod modulated; // modulated.rt: fm
 mod plain; // plain.rt: sawtooth, sine
 mod pulse; // pulse.rt: square, triangle
+mod phased; // phased.rt: a wave by the steps of its phase
 mod steps; // steps.rt: the steps of the phase in a block
 
 pub use modulated::fm;

@@ -20,13 +20,6 @@ pub struct FmState {
     pub mph: f32,
 }
 
-// A frame of the definition.
-#[derive(Clone, Copy)]
-pub struct FmOut {
-    pub sample: f32,
-    pub state: FmState,
-}
-
 // The phases before the next frame.
 pub fn fm_next(knobs: FmKnobs, s: FmState, dt: f32) -> FmState
     ensures { result ≡ fm_next knobs s dt }
@@ -57,12 +50,10 @@ fn phases(
     ensures value { result ≡ fm_reached (pitch_at pitch lane.now) knobs srf from start n }
 {
     let mut s = start;
-    let mut k = 0usize;
-    while k < n {
+    for k in 0..n {
         x[k] = dsp::TAU * s.mph;
         c[k] = dsp::TAU * s.cph;
         s = fm_next(knobs, s, osc::phase_step(pitch.at(lane, from + k), srf));
-        k += 1;
     }
     s
 }
@@ -80,10 +71,8 @@ fn bend(
     requires { (n ≤ 64) × (length x.old ≡ 384) }
     ensures { (length x.new ≡ 384) × Tabled (fm_bent_at knobs gain c.now e.now s.now) nan 0 n x.new }
 {
-    let mut k = 0usize;
-    while k < n {
+    for k in 0..n {
         x[k] = c[k] + knobs.fm_index * (0.4 + 0.6 * gain) * e[k] * s[k];
-        k += 1;
     }
 }
 
@@ -92,10 +81,8 @@ fn copy(s: &[f32; 384], from: usize, n: usize, out: &mut [f32])
     requires { (n ≤ 64) × (from + n ≤ length out.old) }
     ensures { out.new ≡ stored (λ k. get_or s.now k nan) from n out.old }
 {
-    let mut k = 0usize;
-    while k < n {
+    for k in 0..n {
         out[from + k] = s[k];
-        k += 1;
     }
 }
 
@@ -153,13 +140,11 @@ pub fn fm(pitch: Reading, lane: &[f32], knobs: FmKnobs, gain: f32, srf: f32, out
     let mut s = [0.0f32; 384];
     let mut e = [0.0f32; 64];
     let mut state = FmState { cph: 0.0, mph: 0.0 };
-    let mut i = 0usize;
-    while i < out.len() {
+    for i in (0..out.len()).step_by(64) {
         let end = frame_block::block_end(i, out.len());
         state = fm_block(
             pitch, lane, knobs, gain, srf, i, end, state, &mut x, &mut c, &mut near, &mut q,
             &mut wide, &mut s, &mut e, out,
         );
-        i = end;
     }
 }

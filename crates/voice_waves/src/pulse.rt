@@ -12,9 +12,9 @@ ghost use Rattle.dsl.specs.Pitch.{pitch_at, reaches};
 ghost use Rattle.voice_waves.specs.Pulse.{c0·99, pulse_level, pulse_of, square_frames, triangle_frames};
 ghost use Rattle.voice_waves.specs.Block.{square_by, triangle_by};
 
-use crate::plain::PhaseOut;
 use crate::steps::steps;
 use dsl::Reading;
+use osc::Out;
 
 // 1 before the second jump, -1 after it.
 fn level(phase: f32, duty: f32) -> f32
@@ -46,18 +46,6 @@ fn fract(x: f32) -> f32
     float::fract_f32(x)
 }
 
-// The widths of 64 duties.
-fn widths_of(d: &[f32; 64], w: &mut [f32; 64])
-    requires { length w.old ≡ 64 }
-    ensures { (length w.new ≡ 64) × Tabled (λ k. clamp_of (get_or d.now k nan) c0·01 c0·99) nan 0 64 w.new }
-{
-    let mut k = 0usize;
-    while k < 64 {
-        w[k] = float::clamp_f32(d[k], 0.01, 0.99);
-        k += 1;
-    }
-}
-
 // The widths of a block's frames; d is lent for their duties.
 fn widths(
     duty: Reading,
@@ -73,39 +61,16 @@ fn widths(
     ensures tabled { Tabled (λ i. clamp_of (pitch_at duty duties.now i) c0·01 c0·99) nan from end w.new }
 {
     duty.block(duties, from, end, d);
-    widths_of(d, w);
+    frame_block::table(0, 64, w, |k| float::clamp_f32(d[k], 0.01, 0.99));
 }
 
-fn square_by(dt: f32, width: f32, phase: f32) -> PhaseOut
+fn square_by(dt: f32, width: f32, phase: f32) -> Out<f32>
     ensures { result ≡ square_by (record { step = dt; width = width }) phase }
 {
-    PhaseOut {
+    Out {
         sample: pulse(phase, width, fract(phase - width + 1.0), dt),
         state: osc::wrap(phase + dt),
     }
-}
-
-fn square_block(
-    dt: &[f32; 64],
-    w: &[f32; 64],
-    from: usize,
-    end: usize,
-    start: f32,
-    out: &mut [f32],
-) -> f32
-    requires { (from ≤ end) × (end ≤ from + 64) × (end ≤ length out.old) }
-    ensures { Carried (λ i. square_by (record { step = get_or dt.now (i - from) nan; width = get_or w.now (i - from) nan })) (λ o. o.sample) (λ o. o.state)
-        from end out.old start out.new result }
-{
-    let mut s = start;
-    let mut i = from;
-    while i < end {
-        let r = square_by(dt[i - from], w[i - from], s);
-        out[i] = r.sample;
-        s = r.state;
-        i += 1;
-    }
-    s
 }
 
 // The duty is read at every frame.
@@ -125,13 +90,11 @@ pub fn square(
     let mut f = [0.0f32; 64];
     let mut dt = [0.0f32; 64];
     let mut w = [0.0f32; 64];
-    let mut i = 0usize;
-    while i < out.len() {
+    for i in (0..out.len()).step_by(64) {
         let end = frame_block::block_end(i, out.len());
         steps(pitch, lane, srf, i, end, &mut f, &mut dt);
         widths(duty, duties, i, end, &mut f, &mut w);
-        s = square_block(&dt, &w, i, end, s, out);
-        i = end;
+        s = frame_block::frames(i, end, s, out, |k, s| square_by(dt[k - i], w[k - i], s));
     }
 }
 
@@ -141,18 +104,12 @@ pub struct TriangleState {
     pub tri: f32,
 }
 
-#[derive(Clone, Copy)]
-pub struct TriangleOut {
-    pub sample: f32,
-    pub state: TriangleState,
-}
-
-fn triangle_by(dt: f32, s: TriangleState) -> TriangleOut
+fn triangle_by(dt: f32, s: TriangleState) -> Out<TriangleState>
     ensures { result ≡ triangle_by dt s }
 {
     let sq = pulse(s.phase, 0.5, fract(s.phase + 0.5), dt);
     let tri = s.tri * 0.9995 + 4.0 * dt * sq;
-    TriangleOut {
+    Out {
         sample: tri,
         state: TriangleState {
             phase: osc::wrap(s.phase + dt),
@@ -161,6 +118,7 @@ fn triangle_by(dt: f32, s: TriangleState) -> TriangleOut
     }
 }
 
+// Not by `frame_block::frames`: the triangle then took a fifth more time.
 fn triangle_block(
     dt: &[f32; 64],
     from: usize,
@@ -173,12 +131,10 @@ fn triangle_block(
         from end out.old start out.new result }
 {
     let mut s = start;
-    let mut i = from;
-    while i < end {
+    for i in from..end {
         let r = triangle_by(dt[i - from], s);
         out[i] = r.sample;
         s = r.state;
-        i += 1;
     }
     s
 }
@@ -194,11 +150,9 @@ pub fn triangle(pitch: Reading, lane: &[f32], srf: f32, out: &mut [f32])
     };
     let mut f = [0.0f32; 64];
     let mut dt = [0.0f32; 64];
-    let mut i = 0usize;
-    while i < out.len() {
+    for i in (0..out.len()).step_by(64) {
         let end = frame_block::block_end(i, out.len());
         steps(pitch, lane, srf, i, end, &mut f, &mut dt);
         s = triangle_block(&dt, i, end, s, out);
-        i = end;
     }
 }

@@ -1,23 +1,11 @@
 // How far the phase moves in each frame of a block.
-ghost use Rattle.std.specs.Prelude.{◌≡◌, ◌+◌, ◌≤◌, length, get_or};
+ghost use Rattle.std.specs.Prelude.{◌≡◌, ◌+◌, ◌≤◌, length};
 ghost use Rattle.std.specs.Float.{nan};
 ghost use Rattle.blocks.proofs.Block.{Tabled};
 ghost use Rattle.dsl.specs.Pitch.{pitch_at, reaches};
 ghost use Rattle.osc.specs.Phase.{increment};
 
 use dsl::Reading;
-
-// Of each pitch; of the places past the block's end too, which nothing reads.
-fn steps_of(f: &[f32; 64], srf: f32, dt: &mut [f32; 64])
-    requires { length dt.old ≡ 64 }
-    ensures { (length dt.new ≡ 64) × Tabled (λ k. increment (get_or f.now k nan) srf) nan 0 64 dt.new }
-{
-    let mut k = 0usize;
-    while k < 64 {
-        dt[k] = osc::phase_step(f[k], srf);
-        k += 1;
-    }
-}
 
 // Of the frames from `from` on and before `end`; f is lent for their pitches.
 pub fn steps(
@@ -35,5 +23,6 @@ pub fn steps(
     ensures tabled { Tabled (λ i. increment (pitch_at pitch lane.now i) srf) nan from end dt.new }
 {
     pitch.block(lane, from, end, f);
-    steps_of(f, srf, dt);
+    // of the places past the block's end too, which nothing reads
+    frame_block::table(0, 64, dt, |k| osc::phase_step(f[k], srf));
 }

@@ -16,7 +16,7 @@ use Rattle.voice_bass.proofs.bass_note.Given as goal
 abbrev pub invariant-loop-i : goal.invariant-loop-i
 invariant-loop-i l =
     (length l.a ≡ 64) × (length l.e ≡ 64) × Filled (λ i. bass_by (read_at l.bass l.gain l.srf i) (pitch_at l.pitch l.lane i) l.bass l.srf)
-    (λ r. r.sample) (λ r. r.state) l.initial.s l.initial.out l.i l.out l.s
+    (λ r. r.sample) (λ r. r.state) l.initial.s l.initial.out l.i-counter l.out l.s
 
 abbrev pub decreases-loop-i : goal.decreases-loop-i
-decreases-loop-i l = length l.initial.out - l.i
+decreases-loop-i l = length l.initial.out - l.i-counter

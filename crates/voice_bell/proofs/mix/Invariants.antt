@@ -8,6 +8,3 @@ use Rattle.voice_bell.proofs.mix.Given as goal
 
 abbrev pub invariant-loop-k : goal.invariant-loop-k
 invariant-loop-k l = Storing (bell_mix_at l.s l.e0 l.e1 l.e2 l.e3 l.e4) l.from l.n l.k l.initial.out l.out
-
-abbrev pub decreases-loop-k : goal.decreases-loop-k
-decreases-loop-k l = l.n - l.k

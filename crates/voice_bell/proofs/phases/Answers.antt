@@ -15,21 +15,18 @@ use Rattle.voice_bell.proofs.phases.Goals as goal
 pub loop-k-init : goal.loop-k-init
 loop-k-init c = advanced_none c.requires.n_bound.1
 
-pub store6-requires : goal.store6-requires
-store6-requires c = (omega arith, c.loop-k.invariant.kept)
-
 pub at-requires : goal.at-requires
 at-requires c =
     reaches_less c.args.pitch _ _ _ c.requires.reaches (omega (arith, c.loop-k-test.true))
 
-pub overflow_add-k : goal.overflow_add-k
-overflow_add-k c =
+pub overflow_step-k : goal.overflow_step-k
+overflow_step-k c =
     omega (arith, c.loop-k-test.true, c.requires.n_bound.0)
 
 pub loop-k-preserved : goal.loop-k-preserved
 unfolding bell_turns
 loop-k-preserved c =
-    advanced_more c.loop-k.invariant c.loop-k-test.true (omega (arith, c.requires.n_bound.0)) (λ s. refl) c.store6.ensures
+    advanced_more c.loop-k.invariant c.loop-k-test.true (omega (arith, c.requires.n_bound.0)) (λ s. refl) c.store.ensures
     (rw (c.phase_step.ensures, c.at.ensures) at c.bell_next-s.ensures)
 
 pub returns : goal.returns

@@ -14,6 +14,3 @@ use Rattle.voice_bell.proofs.phases.Given as goal
 
 abbrev pub invariant-loop-k : goal.invariant-loop-k
 invariant-loop-k l = Advanced (λ k s. bell_next s (increment (pitch_at l.pitch l.lane (l.from + k)) l.srf)) l.initial.s bell_turns 6 nan 384 l.n l.k l.x l.s
-
-abbrev pub decreases-loop-k : goal.decreases-loop-k
-decreases-loop-k l = l.n - l.k

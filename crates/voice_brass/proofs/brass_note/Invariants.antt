@@ -13,7 +13,9 @@ use Rattle.voice_brass.proofs.Brass.{by_openings}
 use Rattle.voice_brass.proofs.brass_note.Given as goal
 
 abbrev pub invariant-loop-i : goal.invariant-loop-i
-invariant-loop-i l = (length l.a ≡ 64) × Filled (λ i. brass_by (opening_at l.gain l.srf i) (pitch_at l.pitch l.lane i) l.srf) (λ r. r.sample) (λ r. r.state) l.initial.s l.initial.out l.i l.out l.s
+invariant-loop-i l =
+    (length l.a ≡ 64)
+    × Filled (λ i. brass_by (opening_at l.gain l.srf i) (pitch_at l.pitch l.lane i) l.srf) (λ r. r.sample) (λ r. r.state) l.initial.s l.initial.out l.i-counter l.out l.s
 
 abbrev pub decreases-loop-i : goal.decreases-loop-i
-decreases-loop-i l = length l.initial.out - l.i
+decreases-loop-i l = length l.initial.out - l.i-counter

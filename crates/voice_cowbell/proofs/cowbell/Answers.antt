@@ -4,6 +4,7 @@ use Prim.Native.Nat.{ℕ, ◌-◌, ◌≤◌}
 use mathlib.Core.Path.{◌≡◌, refl}
 use lib.ListN.{length}
 use Rattle.blocks.proofs.Carried.{Carried, carried_none, carried_then, carried_all, carried_note}
+use Rattle.frame_block.proofs.Blocks.{last_block}
 use Rattle.dsl.specs.Pitch.{pitch_at}
 use Rattle.dsl.proofs.Reach.{reaches_less}
 use Rattle.voice_cowbell.specs.Cowbell.{cowbell_at, cowbell_frames}
@@ -40,7 +41,7 @@ loop-i-preserved c =
     let v = c.loop-i.invariant in
     let end = c.block_end-end.ensures in
     let next = cowbell_stored (pitch_at c.args.pitch c.args.lane.now) c.args.srf _ _ c.cowbell_block.ensures.tabled (omega (arith, end)) (omega (arith, end)) c.store.ensures in
-    (omega (arith, end, v.3.kept), c.cowbell_block.ensures.x_len_2, c.cowbell_block.ensures.e_len_2, carried_then v.3 next)
+    (omega (arith, end, v.3.kept), c.cowbell_block.ensures.x_len_2, c.cowbell_block.ensures.e_len_2, carried_all (carried_then v.3 next) (omega arith))
 
 pub shape_of-out : goal.shape_of-out
 shape_of-out c = c.loop-i.invariant.3.kept
@@ -50,3 +51,11 @@ unfolding cowbell_frames
 returns c =
     let v = c.loop-i.invariant in
     carried_note (carried_all v.3 (omega (arith, v.0, v.3.kept))) refl
+
+pub returns-2 : goal.returns-2
+unfolding cowbell_frames
+returns-2 c =
+    let v = c.loop-i.invariant in
+    let end = c.block_end-end.ensures in
+    let next = cowbell_stored (pitch_at c.args.pitch c.args.lane.now) c.args.srf _ _ c.cowbell_block.ensures.tabled (omega (arith, end)) (omega (arith, end)) c.store.ensures in
+    carried_note (carried_all (carried_then v.3 next) (omega (arith, v.3.kept, last_block _ _ end.3 (omega arith)))) refl

@@ -12,6 +12,3 @@ use Rattle.voice_cowbell.proofs.driven.Given as goal
 
 abbrev pub invariant-loop-j : goal.invariant-loop-j
 invariant-loop-j l = (l.j ≤ l.n) × (length l.x ≡ 384) × Tabled (λ k. c2·5 ⊗ get_or l.s k nan) nan 0 l.j l.x
-
-abbrev pub decreases-loop-j : goal.decreases-loop-j
-decreases-loop-j l = l.n - l.j

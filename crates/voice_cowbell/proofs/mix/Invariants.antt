@@ -11,6 +11,3 @@ use Rattle.voice_cowbell.proofs.mix.Given as goal
 
 abbrev pub invariant-loop-k : goal.invariant-loop-k
 invariant-loop-k l = (l.k ≤ l.n) × (length l.z ≡ 64) × Tabled (cowbell_mix_at l.s l.e) nan 0 l.k l.z
-
-abbrev pub decreases-loop-k : goal.decreases-loop-k
-decreases-loop-k l = l.n - l.k

@@ -20,16 +20,12 @@ at-requires c = reaches_less c.args.pitch _ _ _ c.requires.reaches (omega (arith
 pub frame_time-t-requires : goal.frame_time-t-requires
 frame_time-t-requires c = record { most = omega (arith, c.loop-k-test.true, c.requires.reaches.few) }
 
-pub store2-requires : goal.store2-requires
-store2-requires c =
-    (omega (arith, c.loop-k-test.true, c.requires.n_bound.0), c.loop-k.invariant.1)
-
 pub loop-k-preserved : goal.loop-k-preserved
 unfolding cowbell_turns
 loop-k-preserved c =
     let v = c.loop-k.invariant in
     let l = c.loop-k-test.true in
-    let e = rw (c.frame_time-t.ensures, c.max_f32-f.ensures, c.at.ensures) at c.store2.ensures in
+    let e = rw (c.frame_time-t.ensures, c.max_f32-f.ensures, c.at.ensures) at c.store.ensures in
     (omega arith, ap length e ∙ written_length c.loop-k.x (c.loop-k.k * 2) _ ∙ v.1, rows_more v.2 refl (omega (arith, v.1, c.requires.n_bound.0)) refl e)
 
 pub returns : goal.returns

@@ -13,6 +13,3 @@ use Rattle.voice_cowbell.proofs.turns.Given as goal
 
 abbrev pub invariant-loop-k : goal.invariant-loop-k
 invariant-loop-k l = (l.k ≤ l.n) × (length l.x ≡ 384) × Rows 2 (λ k. cowbell_turns (pitch_at l.pitch l.lane (l.from + k)) l.srf (l.from + k)) nan l.k l.x
-
-abbrev pub decreases-loop-k : goal.decreases-loop-k
-decreases-loop-k l = l.n - l.k

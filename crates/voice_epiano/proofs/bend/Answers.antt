@@ -18,18 +18,15 @@ body_turn_at-body-requires c = omega (arith, c.loop-k-test.true, c.requires.0)
 pub tine_turn_at-tine-requires : goal.tine_turn_at-tine-requires
 tine_turn_at-tine-requires c = omega (arith, c.loop-k-test.true, c.requires.0)
 
-pub store2-requires : goal.store2-requires
-store2-requires c = (omega (arith, c.loop-k-test.true, c.requires.0), c.loop-k.invariant.1)
-
-pub overflow_add-k : goal.overflow_add-k
-overflow_add-k c = omega (arith, c.loop-k-test.true, c.requires.0)
+pub overflow_step-k : goal.overflow_step-k
+overflow_step-k c = omega (arith, c.loop-k-test.true, c.requires.0)
 
 pub loop-k-preserved : goal.loop-k-preserved
 unfolding outer_turns outer_turns_at body_turn_at tine_turn_at
 loop-k-preserved c =
     let v = c.loop-k.invariant in
     let l = c.loop-k-test.true in
-    let z = rw (c.tine_turn_at-tine.ensures, c.body_turn_at-body.ensures) at c.store2.ensures in
+    let z = rw (c.tine_turn_at-tine.ensures, c.body_turn_at-body.ensures) at c.store.ensures in
     (omega (arith, l), ap length z ∙ written_length _ _ _ ∙ v.1, rows_more v.2 refl (omega (arith, l, v.1, c.requires.0)) refl z)
 
 pub returns : goal.returns

@@ -11,6 +11,3 @@ use Rattle.voice_epiano.proofs.bend.Given as goal
 
 abbrev pub invariant-loop-k : goal.invariant-loop-k
 invariant-loop-k l = (l.k ≤ l.n) × (length l.x ≡ 384) × Rows 2 (outer_turns_at l.gain l.c l.soft l.ping l.s) nan l.k l.x
-
-abbrev pub decreases-loop-k : goal.decreases-loop-k
-decreases-loop-k l = l.n - l.k

@@ -16,9 +16,6 @@ use Rattle.voice_epiano.proofs.phases.Goals as goal
 pub loop-k-init : goal.loop-k-init
 loop-k-init c = (advanced_none c.requires.n_bound.1, c.requires.n_bound.2, tabled_none)
 
-pub store2-requires : goal.store2-requires
-store2-requires c = (omega (arith, c.loop-k-test.true, c.requires.n_bound.0), c.loop-k.invariant.0.kept)
-
 pub bounds-c-k : goal.bounds-c-k
 bounds-c-k c =
     omega (arith, c.loop-k-test.true, c.requires.n_bound.0, c.loop-k.invariant.1)
@@ -27,8 +24,8 @@ pub at-requires : goal.at-requires
 at-requires c =
     reaches_less c.args.pitch _ _ _ c.requires.reaches (omega (arith, c.loop-k-test.true))
 
-pub overflow_add-k : goal.overflow_add-k
-overflow_add-k c =
+pub overflow_step-k : goal.overflow_step-k
+overflow_step-k c =
     omega (arith, c.loop-k-test.true, c.requires.n_bound.0)
 
 pub loop-k-preserved : goal.loop-k-preserved
@@ -37,7 +34,7 @@ loop-k-preserved c =
     let v = c.loop-k.invariant in
     let l = c.loop-k-test.true in
     let moved = rw (c.phase_step.ensures, c.at.ensures) at c.epiano_next-s.ensures in (
-      advanced_more v.0 l (omega (arith, c.requires.n_bound.0)) (λ s. refl) c.store2.ensures moved,
+      advanced_more v.0 l (omega (arith, c.requires.n_bound.0)) (λ s. refl) c.store.ensures moved,
       rw length-set v.1,
       tabled_next v.2 (omega (arith, l, v.1, c.requires.n_bound.0)) (ap carrier_turn_of v.0.is),
     )

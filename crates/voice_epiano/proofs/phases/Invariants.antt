@@ -18,6 +18,3 @@ invariant-loop-k l =
     Advanced (λ k s. epiano_next s (increment (pitch_at l.pitch l.lane (l.from + k)) l.srf)) l.initial.s inner_turns 2 nan 384 l.n l.k l.x l.s
     × (length l.c ≡ 64)
     × Tabled (λ k. carrier_turn_of (epiano_reached (pitch_at l.pitch l.lane) l.srf l.from l.initial.s k)) nan 0 l.k l.c
-
-abbrev pub decreases-loop-k : goal.decreases-loop-k
-decreases-loop-k l = l.n - l.k

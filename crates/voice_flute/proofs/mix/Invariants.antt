@@ -8,6 +8,3 @@ use Rattle.voice_flute.proofs.mix.Given as goal
 
 abbrev pub invariant-loop-k : goal.invariant-loop-k
 invariant-loop-k l = Storing (flute_mix_at l.s l.b l.gain) l.from l.n l.k l.initial.out l.out
-
-abbrev pub decreases-loop-k : goal.decreases-loop-k
-decreases-loop-k l = l.n - l.k

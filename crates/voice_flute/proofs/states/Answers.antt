@@ -28,8 +28,8 @@ pub bounds-b-k : goal.bounds-b-k
 bounds-b-k c =
     omega (arith, c.loop-k.invariant.short, c.loop-k-test.true, c.requires.n_bound.0)
 
-pub overflow_add-k : goal.overflow_add-k
-overflow_add-k c = omega (arith, c.loop-k-test.true, c.requires.n_bound.0)
+pub overflow_step-k : goal.overflow_step-k
+overflow_step-k c = omega (arith, c.loop-k-test.true, c.requires.n_bound.0)
 
 pub loop-k-preserved : goal.loop-k-preserved
 loop-k-preserved c =

@@ -17,6 +17,3 @@ use Rattle.voice_flute.proofs.states.Given as goal
 abbrev pub invariant-loop-k : goal.invariant-loop-k
 invariant-loop-k l =
     PairTabled (λ k s. flute_next (decay_at l.srf c0·15 (l.from + k)) (pitch_at l.pitch l.lane (l.from + k)) l.srf l.lp_a s) l.initial.s (λ s. TAU ⊗ s.phase) (λ s. s.lp) nan 384 64 l.n l.k l.x l.b l.s
-
-abbrev pub decreases-loop-k : goal.decreases-loop-k
-decreases-loop-k l = l.n - l.k

@@ -4,6 +4,7 @@ use Prim.Native.Nat.{◌-◌, ◌≤◌}
 use mathlib.Core.Path.{◌≡◌, refl}
 use lib.ListN.{length}
 use Rattle.blocks.proofs.Carried.{Carried, carried_none, carried_then, carried_all, carried_note}
+use Rattle.frame_block.proofs.Blocks.{last_block}
 use Rattle.dsl.specs.Pitch.{pitch_at}
 use Rattle.dsl.proofs.Reach.{reaches_less}
 use Rattle.voice_mallet.specs.Mallet.{mallet_at, mallet_frames}
@@ -31,7 +32,8 @@ loop-i-smaller c =
 pub loop-i-preserved : goal.loop-i-preserved
 loop-i-preserved c =
     let v = c.loop-i.invariant in
-    (omega (arith, c.block_end-end.ensures, v.3.kept), c.mallet_block-state.ensures.x_len_2, c.mallet_block-state.ensures.e1_len_2, carried_then v.3 c.mallet_block-state.ensures.carried)
+    let done = c.mallet_block-state.ensures in
+    (omega (arith, c.block_end-end.ensures, v.3.kept), done.x_len_2, done.e1_len_2, carried_all (carried_then v.3 done.carried) (omega arith))
 
 pub shape_of-out : goal.shape_of-out
 shape_of-out c = c.loop-i.invariant.3.kept
@@ -41,3 +43,10 @@ unfolding mallet_frames
 returns c =
     let v = c.loop-i.invariant in
     carried_note (carried_all v.3 (omega (arith, v.0, v.3.kept))) refl
+
+pub returns-2 : goal.returns-2
+unfolding mallet_frames
+returns-2 c =
+    let v = c.loop-i.invariant in
+    carried_note (carried_all (carried_then v.3 c.mallet_block-state.ensures.carried)
+    (omega (arith, v.3.kept, last_block _ _ c.block_end-end.ensures.3 (omega arith)))) refl

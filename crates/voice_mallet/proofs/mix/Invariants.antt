@@ -8,6 +8,3 @@ use Rattle.voice_mallet.proofs.mix.Given as goal
 
 abbrev pub invariant-loop-k : goal.invariant-loop-k
 invariant-loop-k l = Storing (mallet_mix_at l.gain l.s l.e1 l.e2) l.from l.n l.k l.initial.out l.out
-
-abbrev pub decreases-loop-k : goal.decreases-loop-k
-decreases-loop-k l = l.n - l.k

@@ -14,9 +14,6 @@ use Rattle.voice_mallet.proofs.phases.Goals as goal
 pub loop-k-init : goal.loop-k-init
 loop-k-init c = advanced_none c.requires.n_bound.1
 
-pub store3-requires : goal.store3-requires
-store3-requires c = (omega arith, c.loop-k.invariant.kept)
-
 pub at-requires : goal.at-requires
 at-requires c =
     reaches_less c.args.pitch _ _ _ c.requires.reaches (omega (arith, c.loop-k-test.true))
@@ -24,7 +21,7 @@ at-requires c =
 pub loop-k-preserved : goal.loop-k-preserved
 unfolding mallet_turns
 loop-k-preserved c =
-    advanced_more c.loop-k.invariant c.loop-k-test.true (omega arith) (λ s. refl) c.store3.ensures
+    advanced_more c.loop-k.invariant c.loop-k-test.true (omega arith) (λ s. refl) c.store.ensures
     (rw (c.phase_step.ensures, c.at.ensures) at c.mallet_next-s.ensures)
 
 pub returns : goal.returns

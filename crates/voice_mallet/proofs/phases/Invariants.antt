@@ -13,6 +13,3 @@ use Rattle.voice_mallet.proofs.phases.Given as goal
 
 abbrev pub invariant-loop-k : goal.invariant-loop-k
 invariant-loop-k l = Advanced (λ k s. mallet_next s (increment (pitch_at l.pitch l.lane (l.from + k)) l.srf)) l.initial.s mallet_turns 3 nan 384 l.n l.k l.x l.s
-
-abbrev pub decreases-loop-k : goal.decreases-loop-k
-decreases-loop-k l = l.n - l.k

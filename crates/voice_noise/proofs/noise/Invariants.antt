@@ -13,6 +13,3 @@ use Rattle.voice_noise.proofs.noise.Given as goal
 
 abbrev pub invariant-loop-i : goal.invariant-loop-i
 invariant-loop-i l = Filled (λ (i : ℕ) (s : ℕ). s) bi_from advance l.initial.rng.0 l.initial.out l.i l.out l.rng.0
-
-abbrev pub decreases-loop-i : goal.decreases-loop-i
-decreases-loop-i l = length l.initial.out - l.i

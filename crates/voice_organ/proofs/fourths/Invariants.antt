@@ -10,6 +10,3 @@ use Rattle.voice_organ.proofs.fourths.Given as goal
 
 abbrev pub invariant-loop-k : goal.invariant-loop-k
 invariant-loop-k l = (l.k ≤ l.n) × (length l.p ≡ 384) × Tabled (λ k. get_or l.s (k * 5 + 3) nan) nan 0 l.k l.p
-
-abbrev pub decreases-loop-k : goal.decreases-loop-k
-decreases-loop-k l = l.n - l.k

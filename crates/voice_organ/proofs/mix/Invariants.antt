@@ -8,6 +8,3 @@ use Rattle.voice_organ.proofs.mix.Given as goal
 
 abbrev pub invariant-loop-k : goal.invariant-loop-k
 invariant-loop-k l = Storing (organ_mix_at l.bars l.norm l.s l.p l.e) l.from l.n l.k l.initial.out l.out
-
-abbrev pub decreases-loop-k : goal.decreases-loop-k
-decreases-loop-k l = l.n - l.k

@@ -4,6 +4,7 @@ use Prim.Native.Nat.{◌-◌, ◌≤◌}
 use mathlib.Core.Path.{◌≡◌, refl}
 use lib.ListN.{length}
 use Rattle.blocks.proofs.Carried.{Carried, carried_none, carried_then, carried_all, carried_note}
+use Rattle.frame_block.proofs.Blocks.{last_block}
 use Rattle.dsl.specs.Pitch.{pitch_at}
 use Rattle.dsl.proofs.Reach.{reaches_less}
 use Rattle.voice_organ.specs.Organ.{organ_at}
@@ -32,7 +33,8 @@ loop-i-smaller c =
 pub loop-i-preserved : goal.loop-i-preserved
 loop-i-preserved c =
     let v = c.loop-i.invariant in
-    (omega (arith, c.block_end-end.ensures, v.3.kept), c.organ_block-state.ensures.x_len_2, c.organ_block-state.ensures.y_len_2, carried_then v.3 c.organ_block-state.ensures.carried)
+    let done = c.organ_block-state.ensures in
+    (omega (arith, c.block_end-end.ensures, v.3.kept), done.x_len_2, done.y_len_2, carried_all (carried_then v.3 done.carried) (omega arith))
 
 pub shape_of-out : goal.shape_of-out
 shape_of-out c = c.loop-i.invariant.3.kept
@@ -42,3 +44,10 @@ returns c =
     let v = c.loop-i.invariant in
     organ_frames_lem c.args.bars (pitch_at c.args.pitch c.args.lane.now) c.args.srf (length c.args.out.now) c.norm_of-norm.ensures
     (carried_note (carried_all v.3 (omega (arith, v.0, v.3.kept))) refl)
+
+pub returns-2 : goal.returns-2
+returns-2 c =
+    let v = c.loop-i.invariant in
+    organ_frames_lem c.args.bars (pitch_at c.args.pitch c.args.lane.now) c.args.srf (length c.args.out.now) c.norm_of-norm.ensures
+    (carried_note (carried_all (carried_then v.3 c.organ_block-state.ensures.carried)
+    (omega (arith, v.3.kept, last_block _ _ c.block_end-end.ensures.3 (omega arith)))) refl)

@@ -17,14 +17,6 @@ use Rattle.voice_organ.proofs.phases.Goals as goal
 pub loop-k-init : goal.loop-k-init
 loop-k-init c = (advanced_none c.requires.n_bound.1, c.requires.n_bound.2, tabled_none)
 
-pub store3-requires : goal.store3-requires
-store3-requires c =
-    (omega (arith, c.loop-k-test.true, c.requires.n_bound.0), c.loop-k.invariant.0.kept)
-
-pub store2-requires : goal.store2-requires
-store2-requires c =
-    (omega (arith, c.loop-k-test.true, c.requires.n_bound.0), rw c.store3.ensures (written_length _ _ _ ∙ c.loop-k.invariant.0.kept))
-
 pub bounds-y-k : goal.bounds-y-k
 bounds-y-k c =
     omega (arith, c.loop-k-test.true, c.requires.n_bound.0, c.loop-k.invariant.1)
@@ -33,16 +25,12 @@ pub at-requires : goal.at-requires
 at-requires c =
     reaches_less c.args.pitch _ _ _ c.requires.reaches (omega (arith, c.loop-k-test.true))
 
-pub overflow_add-k-in-loop-k-3 : goal.overflow_add-k-in-loop-k-3
-overflow_add-k-in-loop-k-3 c =
-    omega (arith, c.loop-k-test.true, c.requires.n_bound.0)
-
 pub loop-k-preserved : goal.loop-k-preserved
-unfolding organ_turns written
+unfolding organ_turns
 loop-k-preserved c =
     let v = c.loop-k.invariant in
     let l = c.loop-k-test.true in (
-      advanced_more v.0 l (omega (arith, c.requires.n_bound.0)) (λ s. refl) (rw (c.store2.ensures, c.store3.ensures) refl) (rw c.at.ensures at c.organ_next-s.ensures),
+      advanced_more v.0 l (omega (arith, c.requires.n_bound.0)) (λ s. refl) c.store.ensures (rw c.at.ensures at c.organ_next-s.ensures),
       rw length-set v.1,
       tabled_next v.2 (omega (arith, l, v.1, c.requires.n_bound.0)) (ap organ_sixth_turn v.0.is),
     )

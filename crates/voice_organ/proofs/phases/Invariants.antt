@@ -19,6 +19,3 @@ invariant-loop-k l =
     Advanced (λ k s. organ_next (pitch_at l.pitch l.lane (l.from + k)) l.srf s) l.start (organ_turns l.bars) 5 nan 384 l.n l.k l.x l.s
     × (length l.y ≡ 384)
     × Tabled (λ k. organ_sixth_turn (organ_reached (pitch_at l.pitch l.lane) l.srf l.from l.start k)) nan 0 l.k l.y
-
-abbrev pub decreases-loop-k : goal.decreases-loop-k
-decreases-loop-k l = l.n - l.k

@@ -15,7 +15,7 @@ use Rattle.voice_strings.proofs.strings_note.Given as goal
 
 abbrev pub invariant-loop-i : goal.invariant-loop-i
 invariant-loop-i l = (length l.e ≡ 64) × Filled (λ i. strings_by (decay_at l.srf c0·12 i) (pitch_at l.pitch l.lane i) l.srf l.lp_a)
-    (λ r. r.sample) (λ r. r.state) l.initial.s l.initial.out l.i l.out l.s
+    (λ r. r.sample) (λ r. r.state) l.initial.s l.initial.out l.i-counter l.out l.s
 
 abbrev pub decreases-loop-i : goal.decreases-loop-i
-decreases-loop-i l = length l.initial.out - l.i
+decreases-loop-i l = length l.initial.out - l.i-counter

@@ -1,5 +1,4 @@
 -- `frame_block::decay::decay_by` meets its contract. Assumes nothing.
-use borrow.Author.Rules.{rules}
 use Rattle.frame_block.proofs.decay.decay_by.Goals as goal
 
 pub returns : goal.returns

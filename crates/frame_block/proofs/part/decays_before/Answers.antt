@@ -3,6 +3,7 @@ use native.Mathlib.Omega.{arith}
 use borrow.Author.Tests.{leb-true}
 use borrow.Author.Rules.{rules}
 use Rattle.blocks.proofs.Block.{tabled_less}
+use Rattle.frame_block.specs.Decay.{decay_at}
 use Rattle.frame_block.proofs.part.decays_before.Goals as goal
 
 pub decays_whole-requires : goal.decays_whole-requires
@@ -14,3 +15,6 @@ decays_whole-requires c =
 
 pub returns-then-from-le16777152 : goal.returns-then-from-le16777152
 returns-then-from-le16777152 c = (c.decays_whole.ensures.0, tabled_less _ c.decays_whole.ensures.1 (omega arith))
+
+pub returns-else-end-from-ge-FEW : goal.returns-else-end-from-ge-FEW
+returns-else-end-from-ge-FEW c = c.table.ensures (decay_at c.args.srf c.args.decay) (λ i x ge lt q. search rules)

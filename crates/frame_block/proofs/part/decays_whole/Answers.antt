@@ -1,7 +1,6 @@
 -- `frame_block::part::decays_whole` meets its contract. Assumes nothing.
 use Rattle.blocks.proofs.Block.{tabled_shift}
 use Rattle.frame_block.specs.Decay.{decay_at}
-use borrow.Author.Rules.{rules}
 use Rattle.frame_block.proofs.part.decays_whole.Goals as goal
 
 pub returns : goal.returns

@@ -1,5 +1,4 @@
 -- `frame_block::part::level` meets its contract. Assumes nothing.
-use borrow.Author.Rules.{rules}
 use Rattle.frame_block.proofs.part.level.Goals as goal
 
 pub returns : goal.returns

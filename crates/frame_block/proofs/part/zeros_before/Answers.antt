@@ -1,19 +1,7 @@
 -- `frame_block::part::zeros_before` meets its contract. Assumes nothing.
 use borrow.Author.Rules.{rules}
-use native.Mathlib.Omega.{arith}
-use mathlib.Core.Path.{◌≡◌, refl}
-use Prim.Native.Nat.{◌-◌, ◌≤◌}
-use lib.ListN.{length, length-set}
-use lib.Ieee.{nan}
 use Rattle.ieee.specs.Numbers.{c0}
-use Rattle.blocks.proofs.Block.{Tabled, tabled_none, tabled_more, tabled_all}
 use Rattle.frame_block.proofs.part.zeros_before.Goals as goal
 
-pub loop-i-init : goal.loop-i-init
-loop-i-init c = (omega arith, omega arith, c.requires.a_len, tabled_none)
-
-pub loop-i-preserved : goal.loop-i-preserved
-loop-i-preserved c = (omega arith, omega arith, rw length-set c.loop-i.invariant.2, tabled_more c.loop-i.invariant.3 (omega arith) (omega arith) refl)
-
 pub returns : goal.returns
-returns c = (c.loop-i.invariant.2, tabled_all c.loop-i.invariant.3 (omega arith))
+returns c = c.table.ensures (λ _. c0) (λ i x ge lt q. search rules)

@@ -1,6 +1,5 @@
 -- `kit_808::levels::levels` meets its contract: each arm by what its call ensures. Assumes nothing.
 use mathlib.Core.Path.{◌∙◌}
-use borrow.Author.Rules.{rules}
 use Rattle.osc.specs.Phase.{seconds}
 use Rattle.kit_808.specs.Block.{eight08_level}
 use Rattle.kit_808.proofs.ByLevel.{no_level}

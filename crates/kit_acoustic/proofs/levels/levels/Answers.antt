@@ -1,6 +1,5 @@
 -- `kit_acoustic::levels::levels` meets its contract: each arm by what its call ensures. Assumes nothing.
 use mathlib.Core.Path.{◌∙◌}
-use borrow.Author.Rules.{rules}
 use Rattle.blocks.proofs.Block.{tabled_same}
 use Rattle.osc.specs.Phase.{seconds}
 use Rattle.kit_acoustic.specs.Block.{acoustic_block_level}

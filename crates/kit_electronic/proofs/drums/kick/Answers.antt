@@ -1,8 +1,8 @@
 -- `kit_electronic::drums::kick` meets its contract: each call by what it ensures. Assumes nothing.
-use Rattle.kit_electronic.specs.Drums.{electronic_kick}
+use Rattle.kit_electronic.specs.Drums.{electronic_kick, electronic_click}
 use Rattle.kit_electronic.proofs.drums.kick.Goals as goal
 
 pub returns : goal.returns
-unfolding electronic_kick
+unfolding electronic_kick electronic_click
 returns c =
-    rw (c.beater_click-click.ensures.1, c.beater_click-click.ensures.0, c.exp-2.ensures, c.tanh.ensures, c.sin.ensures, c.wrap-phase.ensures, c.exp.ensures)
+    rw (c.click-click.ensures.1, c.click-click.ensures.0, c.exp-2.ensures, c.tanh.ensures, c.sin.ensures, c.wrap-phase.ensures, c.exp.ensures)

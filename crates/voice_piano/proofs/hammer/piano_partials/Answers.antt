@@ -1,5 +1,5 @@
 -- `voice_piano::hammer::piano_partials` meets its contract, by the laws of `Built`. Assumes nothing.
-use Rattle.std.proofs.Common.{◌-◌, refl, arith, rules}
+use Rattle.std.proofs.Common.{◌≡◌, ◌∙◌, take, refl, sym, ap, arith}
 use Rattle.voice_piano.proofs.Built.{Built, built_none, built_here, built_more, built_all}
 use Rattle.voice_piano.proofs.hammer.piano_partials.Goals as goal
 
@@ -20,4 +20,6 @@ loop-j-preserved c =
     built_more c.loop-j.invariant (omega arith) (rw ratio at c.if-ratio-b.false) (rw ratio at c.partial_of-p.ensures)
 
 pub returns : goal.returns
-returns c = (c.loop-j.invariant.within, built_all c.loop-j.invariant (omega arith))
+returns c =
+    let all : c.loop-j.j ≡ 18 = omega (arith, c.loop-j.invariant.within) in
+    (omega arith, ap (λ n. take n c.loop-j.items) (sym all) ∙ built_all c.loop-j.invariant (omega arith))

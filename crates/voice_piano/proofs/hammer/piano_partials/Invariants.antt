@@ -5,6 +5,3 @@ use Rattle.voice_piano.proofs.hammer.piano_partials.Given as goal
 
 abbrev pub invariant-loop-j : goal.invariant-loop-j
 invariant-loop-j l = Built l.b l.srf l.j l.items
-
-abbrev pub decreases-loop-j : goal.decreases-loop-j
-decreases-loop-j l = 18 - l.j

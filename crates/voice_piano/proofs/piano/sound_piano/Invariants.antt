@@ -11,6 +11,3 @@ abbrev pub invariant-loop-i : goal.invariant-loop-i
 invariant-loop-i l =
     ((length l.x ≡ 384) × (length l.near ≡ 384) × (length l.q ≡ 384) × (length l.wide ≡ 384) × (length l.sines ≡ 384))
     × Filled (λ i. piano_at (pitch_at l.pitch l.lane i) l.srf l.det l.norm i) (λ r. r.sample) (λ r. r.state) (heard l.count l.initial.s) l.initial.out l.i l.out (heard l.count l.s)
-
-abbrev pub decreases-loop-i : goal.decreases-loop-i
-decreases-loop-i l = length l.initial.out - l.i

@@ -8,6 +8,3 @@ use Rattle.voice_piano.proofs.wires.amp_sum.Given as goal
 
 abbrev pub invariant-loop-j : goal.invariant-loop-j
 invariant-loop-j l = Folded amp_added (neg c0) l.items l.j l.sum × (l.j ≤ l.count)
-
-abbrev pub decreases-loop-j : goal.decreases-loop-j
-decreases-loop-j l = l.count - l.j

@@ -5,4 +5,4 @@ use Rattle.voice_piano.proofs.wires.store_turns.Goals as goal
 
 pub returns : goal.returns
 unfolding turns_of
-returns c = c.store2.ensures
+returns c = c.store.ensures

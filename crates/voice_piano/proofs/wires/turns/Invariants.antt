@@ -8,6 +8,3 @@ use Rattle.voice_piano.proofs.wires.turns.Given as goal
 
 abbrev pub invariant-loop-j : goal.invariant-loop-j
 invariant-loop-j l = (l.j ≤ l.count) × (length l.x ≡ 384) × Rows 2 (λ j. turns_of (get_or l.items j no_partial)) nan l.j l.x
-
-abbrev pub decreases-loop-j : goal.decreases-loop-j
-decreases-loop-j l = l.count - l.j

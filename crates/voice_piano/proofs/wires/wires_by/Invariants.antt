@@ -9,6 +9,3 @@ use Rattle.voice_piano.proofs.wires.wires_by.Given as goal
 
 abbrev pub invariant-loop-j : goal.invariant-loop-j
 invariant-loop-j l = Swept added (moved l.dt l.det) c0 l.initial.parts l.j l.parts l.sum × (l.j ≤ l.count)
-
-abbrev pub decreases-loop-j : goal.decreases-loop-j
-decreases-loop-j l = l.count - l.j

@@ -10,6 +10,3 @@ invariant-loop-i l =
     Filled (ring_at l.k l.g l.srf) (λ r. r.sample) (λ r. r.state) (ring_start l.initial.string) l.initial.out l.i l.out (record { string = l.string; spos = l.spos; rest = l.s })
     × (length l.string ≡ length l.initial.string)
     × (l.spos < length l.initial.string)
-
-abbrev pub decreases-loop-i : goal.decreases-loop-i
-decreases-loop-i l = length l.initial.out - l.i

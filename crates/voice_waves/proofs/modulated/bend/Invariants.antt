@@ -11,6 +11,3 @@ use Rattle.voice_waves.proofs.modulated.bend.Given as goal
 
 abbrev pub invariant-loop-k : goal.invariant-loop-k
 invariant-loop-k l = (l.k ≤ l.n) × (length l.x ≡ 384) × Tabled (fm_bent_at l.knobs l.gain l.c l.e l.s) nan 0 l.k l.x
-
-abbrev pub decreases-loop-k : goal.decreases-loop-k
-decreases-loop-k l = l.n - l.k

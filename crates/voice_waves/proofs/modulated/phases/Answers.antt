@@ -28,8 +28,8 @@ bounds-c-k c = omega (arith, c.loop-k.invariant.0.2, c.loop-k-test.true, c.requi
 pub at-requires : goal.at-requires
 at-requires c = reaches_less c.args.pitch _ _ _ c.requires.reaches (omega (arith, c.loop-k-test.true))
 
-pub overflow_add-k : goal.overflow_add-k
-overflow_add-k c = omega (arith, c.loop-k-test.true, c.requires.n_bound.0)
+pub overflow_step-k : goal.overflow_step-k
+overflow_step-k c = omega (arith, c.loop-k-test.true, c.requires.n_bound.0)
 
 pub loop-k-preserved : goal.loop-k-preserved
 unfolding iterate

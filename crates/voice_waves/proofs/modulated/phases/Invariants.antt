@@ -21,6 +21,3 @@ invariant-loop-k l =
     × Tabled (λ k. modulator_turn_of (fm_reached (pitch_at l.pitch l.lane) l.knobs l.srf l.from l.initial.s k)) nan 0 l.k l.x
     × Tabled (λ k. carrier_turn_of (fm_reached (pitch_at l.pitch l.lane) l.knobs l.srf l.from l.initial.s k)) nan 0 l.k l.c
     × (l.s ≡ fm_reached (pitch_at l.pitch l.lane) l.knobs l.srf l.from l.initial.s l.k)
-
-abbrev pub decreases-loop-k : goal.decreases-loop-k
-decreases-loop-k l = l.n - l.k

@@ -1,45 +1,11 @@
--- `voice_waves::plain::sawtooth` meets its contract: a block carries `Filled` on. Assumes nothing.
-use Prim.Native.Nat.{◌-◌}
-use mathlib.Core.Path.{◌≡◌, refl, ◌∙◌}
-use native.Mathlib.Omega.{arith}
-use borrow.Author.Rules.{rules}
-use lib.ListN.{length}
-use Rattle.laws.proofs.Fill.{Filled, filled_none, filled_frames, filled_length}
+-- `voice_waves::plain::sawtooth` meets its contract: it is the wave by the frames of `sawtooth_by`. Assumes nothing.
+use Rattle.std.proofs.Common.{rules, ◌∙◌}
 use Rattle.dsl.specs.Pitch.{pitch_at}
-use Rattle.dsl.proofs.Reach.{reaches_less}
-use Rattle.osc.specs.Phase.{increment}
 use Rattle.voice_waves.specs.Block.{sawtooth_by}
 use Rattle.voice_waves.proofs.Stepped.{sawtooth_frames_lem}
 use Rattle.voice_waves.proofs.plain.sawtooth.Goals as goal
 
-pub loop-i-init : goal.loop-i-init
-loop-i-init c = (refl, refl, filled_none)
-
-pub steps-requires : goal.steps-requires
-steps-requires c =
-    let v = c.loop-i.invariant in
-    let end = c.block_end-end.ensures in
-    record {
-      from_le_end = (omega (arith, end), omega (arith, end), v.0, v.1);
-      reaches = reaches_less c.args.pitch _ _ _ c.requires (omega (arith, filled_length v.2, end));
-    }
-
-pub sawtooth_block-s-requires : goal.sawtooth_block-s-requires
-sawtooth_block-s-requires c = let end = c.block_end-end.ensures in (omega (arith, end), omega (arith, end), omega (arith, end))
-
-pub loop-i-smaller : goal.loop-i-smaller
-loop-i-smaller c =
-    omega (arith, filled_length c.loop-i.invariant.2, c.block_end-end.ensures)
-
-pub loop-i-preserved : goal.loop-i-preserved
-loop-i-preserved c =
-    let p = c.args in
-    (c.steps.ensures.f_len.0, c.steps.ensures.f_len.1, c.sawtooth_block-s.ensures.on _ _ _ (λ k h l s. rw (c.steps.ensures.tabled.at k h l)) c.loop-i.invariant.2)
-
-pub shape_of-out : goal.shape_of-out
-shape_of-out c = filled_length c.loop-i.invariant.2
-
 pub returns : goal.returns
 returns c =
     let p = c.args in
-    filled_frames c.loop-i.invariant.2 (omega (arith, filled_length c.loop-i.invariant.2)) (omega arith) ∙ sawtooth_frames_lem (pitch_at p.pitch p.lane.now) p.srf _
+    c.stepped.ensures sawtooth_by (λ dt s r q. search rules) ∙ sawtooth_frames_lem (pitch_at p.pitch p.lane.now) p.srf _

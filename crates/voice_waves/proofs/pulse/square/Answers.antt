@@ -5,6 +5,7 @@ use native.Mathlib.Omega.{arith}
 use borrow.Author.Rules.{rules}
 use lib.ListN.{length}
 use Rattle.laws.proofs.Fill.{Filled, filled_none, filled_frames, filled_length}
+use Rattle.frame_block.proofs.Blocks.{filled_to, last_block}
 use Rattle.dsl.specs.Pitch.{pitch_at}
 use Rattle.dsl.proofs.Reach.{reaches_less}
 use Rattle.voice_waves.specs.Block.{square_by}
@@ -32,9 +33,6 @@ widths-requires c =
       reaches = reaches_less c.args.duty _ _ _ c.requires.reaches_2 (omega (arith, filled_length v.3, end));
     }
 
-pub square_block-s-requires : goal.square_block-s-requires
-square_block-s-requires c = let end = c.block_end-end.ensures in (omega (arith, end), omega (arith, end), omega (arith, end))
-
 pub loop-i-smaller : goal.loop-i-smaller
 loop-i-smaller c =
     omega (arith, filled_length c.loop-i.invariant.3, c.block_end-end.ensures)
@@ -43,11 +41,12 @@ pub loop-i-preserved : goal.loop-i-preserved
 loop-i-preserved c =
     let p = c.args in
     let f = pitch_at p.pitch p.lane.now in
-    let d = pitch_at p.duty p.duties.now in (
+    let d = pitch_at p.duty p.duties.now in
+    let read = read_is f d p.srf c.steps.ensures.tabled c.widths.ensures.tabled in (
       c.widths.ensures.d_len.0,
       c.steps.ensures.f_len.1,
       c.widths.ensures.d_len.1,
-      c.square_block-s.ensures.on _ _ _ (λ k h l s. rw (read_is f d p.srf c.steps.ensures.tabled c.widths.ensures.tabled k h l)) c.loop-i.invariant.3,
+      filled_to ((c.frames-s.ensures _ (λ k s r ge lt q. rw (← read k ge lt) (search rules))).on _ _ _ (λ k h l s. refl) c.loop-i.invariant.3) (omega arith),
     )
 
 pub shape_of-out : goal.shape_of-out
@@ -58,3 +57,12 @@ returns c =
     let p = c.args in
     let v = c.loop-i.invariant.3 in
     filled_frames v (omega (arith, filled_length v)) (omega arith) ∙ square_frames_lem (pitch_at p.pitch p.lane.now) (pitch_at p.duty p.duties.now) p.srf _
+
+pub returns-2 : goal.returns-2
+returns-2 c =
+    let p = c.args in
+    let f = pitch_at p.pitch p.lane.now in
+    let d = pitch_at p.duty p.duties.now in
+    let read = read_is f d p.srf c.steps.ensures.tabled c.widths.ensures.tabled in
+    filled_frames ((c.frames-s.ensures _ (λ k s r ge lt q. rw (← read k ge lt) (search rules))).on _ _ _ (λ k h l s. refl) c.loop-i.invariant.3)
+    (omega (arith, filled_length c.loop-i.invariant.3, last_block _ _ c.block_end-end.ensures.3 (omega arith))) (omega arith) ∙ square_frames_lem f d p.srf _

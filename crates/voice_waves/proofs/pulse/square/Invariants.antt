@@ -14,7 +14,7 @@ use Rattle.voice_waves.proofs.pulse.square.Given as goal
 abbrev pub invariant-loop-i : goal.invariant-loop-i
 invariant-loop-i l =
     (length l.f ≡ 64) × (length l.dt ≡ 64) × (length l.w ≡ 64)
-    × Filled (λ i. square_by (read_at (pitch_at l.pitch l.lane) (pitch_at l.duty l.duties) l.srf i)) (λ r. r.sample) (λ r. r.state) l.initial.s l.initial.out l.i l.out l.s
+    × Filled (λ i. square_by (read_at (pitch_at l.pitch l.lane) (pitch_at l.duty l.duties) l.srf i)) (λ r. r.sample) (λ r. r.state) l.initial.s l.initial.out l.i-counter l.out l.s
 
 abbrev pub decreases-loop-i : goal.decreases-loop-i
-decreases-loop-i l = length l.initial.out - l.i
+decreases-loop-i l = length l.initial.out - l.i-counter

@@ -5,6 +5,7 @@ use native.Mathlib.Omega.{arith}
 use borrow.Author.Rules.{rules}
 use lib.ListN.{length}
 use Rattle.laws.proofs.Fill.{Filled, filled_none, filled_frames, filled_length}
+use Rattle.frame_block.proofs.Blocks.{filled_to, last_block}
 use Rattle.dsl.specs.Pitch.{pitch_at}
 use Rattle.dsl.proofs.Reach.{reaches_less}
 use Rattle.osc.specs.Phase.{increment}
@@ -34,7 +35,7 @@ loop-i-smaller c =
 pub loop-i-preserved : goal.loop-i-preserved
 loop-i-preserved c =
     let p = c.args in
-    (c.steps.ensures.f_len.0, c.steps.ensures.f_len.1, c.triangle_block-s.ensures.on _ _ _ (λ k h l s. rw (c.steps.ensures.tabled.at k h l)) c.loop-i.invariant.2)
+    (c.steps.ensures.f_len.0, c.steps.ensures.f_len.1, filled_to (c.triangle_block-s.ensures.on _ _ _ (λ k h l s. rw (c.steps.ensures.tabled.at k h l)) c.loop-i.invariant.2) (omega arith))
 
 pub shape_of-out : goal.shape_of-out
 shape_of-out c = filled_length c.loop-i.invariant.2
@@ -43,3 +44,9 @@ pub returns : goal.returns
 returns c =
     let p = c.args in
     filled_frames c.loop-i.invariant.2 (omega (arith, filled_length c.loop-i.invariant.2)) (omega arith) ∙ triangle_frames_lem (pitch_at p.pitch p.lane.now) p.srf _
+
+pub returns-2 : goal.returns-2
+returns-2 c =
+    let p = c.args in
+    filled_frames (c.triangle_block-s.ensures.on _ _ _ (λ k h l s. rw (c.steps.ensures.tabled.at k h l)) c.loop-i.invariant.2)
+    (omega (arith, filled_length c.loop-i.invariant.2, last_block _ _ c.block_end-end.ensures.3 (omega arith))) (omega arith) ∙ triangle_frames_lem (pitch_at p.pitch p.lane.now) p.srf _

@@ -10,6 +10,3 @@ use Rattle.voice_waves.proofs.pulse.triangle_block.Given as goal
 
 abbrev pub invariant-loop-i : goal.invariant-loop-i
 invariant-loop-i l = (l.i ≤ l.end) × Carried (λ i. triangle_by (get_or l.dt (i - l.from) nan)) (λ o. o.sample) (λ o. o.state) l.from l.i l.initial.out l.initial.s l.out l.s
-
-abbrev pub decreases-loop-i : goal.decreases-loop-i
-decreases-loop-i l = l.end - l.i

@@ -1,4 +1,6 @@
 -- `voice_waves::pulse::widths` meets its contract. Assumes nothing.
+use lib.Ieee.{nan}
+use lib.ListN.{get_or}
 use Rattle.ieee.specs.Numbers.{c0·01}
 use Rattle.ieee.specs.Order.{clamp_of}
 use Rattle.voice_waves.specs.Pulse.{c0·99}
@@ -10,7 +12,7 @@ pub returns : goal.returns
 returns c =
     let p = c.args in
     let r = c.block.ensures in
-    let s = c.widths_of.ensures in
+    let s = c.table.ensures (λ k. clamp_of (get_or c.block.new.f k nan) c0·01 c0·99) (λ i x ge lt q. search rules) in
     record {
       d_len = (r.0, s.0);
       tabled = tabled_by (λ x. clamp_of x c0·01 c0·99) r.1 s.1 c.requires.from_le_end.1;
