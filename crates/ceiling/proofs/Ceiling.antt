@@ -19,7 +19,7 @@ use Rattle.kit_counts.proofs.Hits.{kit_most}
 use Rattle.score.specs.Score.{Score, rate_in, wave_in, kit_in, note_in, note_count, place, skips, pitch, note_draws, score_draws, draws_before}
 use Rattle.score.specs.Refusals.{refusal}
 use Rattle.score.proofs.Accepted.{accepted_score}
-use Rattle.outcome.specs.declared.answer.Verdict.TheVariants.{Fine}
+use Rattle.std.specs.Prelude.{Ok}
 use Rattle.score.proofs.Notes.{skipped_draws, sounded_draws, all_within, draws_all}
 use Rattle.ceiling.specs.Ceiling.{longest_string, ceiling_of}
 use Rattle.ceiling.proofs.Longest.{period_most}
@@ -76,5 +76,5 @@ module _ (s : Score) (r : Rate (rate_in s)) where
   ceiling = let is = draws_all s in omega (arith, before_under (note_count s))
 
 -- of every score that is accepted, whatever it holds
-pub accepted_under : (s : Score) → refusal s ≡ Fine → score_draws s ≤ ceiling_of (rate_in s) (note_count s) s.n
+pub accepted_under : (s : Score) → refusal s ≡ Ok tt → score_draws s ≤ ceiling_of (rate_in s) (note_count s) s.n
 accepted_under s ok = ceiling s (accepted_score s ok).fit.rate

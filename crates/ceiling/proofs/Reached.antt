@@ -27,8 +27,8 @@ use Rattle.tempo.specs.Judge.{all_of, chain, in_domain, begins_at_zero, in_order
 use Rattle.tempo.specs.Map.{no_map}
 use Rattle.outcome.specs.Answer.{accepted, unless}
 use Rattle.outcome.specs.First.{first_of, first_refusal}
-use Rattle.outcome.specs.declared.answer.Verdict.{Verdict}
-use Rattle.outcome.specs.declared.answer.Verdict.TheVariants.{Fine}
+use Rattle.outcome.specs.Outcome.{Verdict}
+use Rattle.std.specs.Prelude.{Ok}
 use Rattle.outcome.proofs.First.{all_false, inside_is}
 use Rattle.score.specs.Score.{Score, note_in, note_count, notes_in, note_draws, score_draws, draws_before, skips}
 use Rattle.score.specs.Refusals.{call_tests, note_tests, note_refusal, refusal, refusal_at}
@@ -88,7 +88,7 @@ is_not : {b : Bool} → b ≡ true → not b ≡ false
 is_not e = ap not e
 
 -- verdicts that are all fine
-none_refuses : (f : ℕ → Verdict) (m k : ℕ) → ((i : ℕ) → i < k + m → f i ≡ Fine) → first_refusal (listed_from f m k) ≡ Fine
+none_refuses : (f : ℕ → Verdict) (m k : ℕ) → ((i : ℕ) → i < k + m → f i ≡ Ok tt) → first_refusal (listed_from f m k) ≡ Ok tt
 unfolding first_refusal listed_from
 none_refuses f zero k h = refl
 none_refuses f (suc m) k h = rw (h k (omega arith)) (none_refuses f m (suc k) (λ i l. h i (omega arith)))
@@ -104,7 +104,7 @@ module _ (rate m n : ℕ) (r : Rate rate) (some : 1 ≤ n) (few : n ≤ 1000000)
   note_is k h = held_at m k h
 
   -- ---- accepted: every test but 22
-  call_fine : first_of (call_tests s) ≡ Fine
+  call_fine : first_of (call_tests s) ≡ Ok tt
   call_fine =
       all_false (call_tests s) (
         inside_is rate 8000 192000 r.least r.most,
@@ -150,17 +150,17 @@ module _ (rate m n : ℕ) (r : Rate rate) (some : 1 ≤ n) (few : n ≤ 1000000)
       fives : eqb (length (held_notes m) % 5) 0 ≡ true
       fives = eq-eqb (length (held_notes m) % 5) 0 (let l = held_length m in omega arith)
 
-  held_fine : note_refusal s (Note held) ≡ Fine
+  held_fine : note_refusal s (Note held) ≡ Ok tt
   unfolding note_refusal
   held_fine =
       all_false (note_tests s held) (le-ltb 1048575 0 (omega arith), (le-ltb 1048575 1048575 (omega arith), (is_not gain_fine, (is_not pitch_fine, (refl, tt)))))
 
-  notes_fine : first_refusal (map (note_refusal s) (notes_in s)) ≡ Fine
+  notes_fine : first_refusal (map (note_refusal s) (notes_in s)) ≡ Ok tt
   notes_fine =
       ap first_refusal (from_map (note_refusal s) (note_in s) (note_count s) 0)
       ∙ none_refuses (λ k. note_refusal s (note_in s k)) (note_count s) 0 (λ i h. ap (note_refusal s) (note_is i (omega (arith, count_is))) ∙ held_fine)
 
-  score_fine : refusal s ≡ Fine
+  score_fine : refusal s ≡ Ok tt
   unfolding refusal
   score_fine = rw call_fine notes_fine
 
@@ -192,7 +192,7 @@ module _ (rate m n : ℕ) (r : Rate rate) (some : 1 ≤ n) (few : n ≤ 1000000)
   draws_exactly = draws_all s ∙ ap (draws_before s) count_is ∙ draws_to m (omega arith)
 
   module _ (fits : ceiling_of rate m n ≤ 2 ^ 64 - 1) where
-    pub accepted_at_0 : refusal_at s 0 ≡ Fine
+    pub accepted_at_0 : refusal_at s 0 ≡ Ok tt
     unfolding refusal_at first_of
     accepted_at_0 =
         let h : 0 + score_draws s ≤ 2 ^ 64 - 1 = omega (arith, draws_exactly) in

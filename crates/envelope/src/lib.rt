@@ -99,7 +99,7 @@ pub fn release_start(env: Adsr, len: usize, rate: u32) -> f32
 }
 
 // The end of a stage that lasts until `end` seconds, among the frames from `from` on and below n: the first
-// whose time is not below `end`, by halves.
+// whose time is not below `end`, by halves: a search of frame numbers, which stand in no list, so that it is a `while`.
 pub fn stage_end(end: f32, from: usize, n: usize, rate: u32) -> usize
     requires rate { Rate rate }
     requires frames { Frames n }

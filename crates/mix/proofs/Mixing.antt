@@ -3,7 +3,6 @@ use Rattle.std.proofs.Common.{◌≡◌, ℕ, zero, suc, ◌+◌, ◌-◌, ◌<�
 use Rattle.std.proofs.Common.{length-drop, length-take, length-take-le, get_or-drop, get_or-take, get_or-append-add}
 use lib.ListN.{length-replicate, get_or-replicate, replicate-append-replicate, get_or-append}
 use lib.Ieee.{Float, nan}
-use Rattle.laws.specs.Run.{samples}
 use Rattle.laws.specs.Update.{updated_from}
 use Rattle.laws.proofs.Update.{updated_length}
 use Rattle.ieee.specs.Numbers.{c0}
@@ -26,13 +25,8 @@ module _ {Y : Type 0} (rule : ℕ → Y → Y) (d : Y) where
   updated_past j (suc n) (y ∷ ys) zero h = absurd (omega arith)
   updated_past j (suc n) (y ∷ ys) (suc k) h = updated_past (suc j) n ys k (omega arith)
 
--- the frames that a loop of plus zeros fills
-pub silence_filled : (n : ℕ) → samples (λ i (s : ℕ). c0) (λ y. y) (λ y. 0) 0 n ≡ silence n
-unfolding samples silence
-silence_filled zero = refl
-silence_filled (suc n) = ap (λ (l : List Float). l ++ (c0 ∷ [])) (silence_filled n)
-
-silence_replicated : (n : ℕ) → silence n ≡ replicate n c0
+-- plus zeros, as the library has a list of one value
+pub silence_replicated : (n : ℕ) → silence n ≡ replicate n c0
 unfolding silence
 silence_replicated zero = refl
 silence_replicated (suc n) =

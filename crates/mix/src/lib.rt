@@ -1,24 +1,21 @@
 // The frames of a score, and how they gain a note: the sum at the end of `render_seq` of render/seq.rs.
 #![tactic(auto)]
 
-mod stages; // stages.rt: the loops over the frames of a stage
+mod stages; // stages.rt: the loop over the frames of a stage
 
 ghost use Rattle.std.specs.Prelude.{◌≡◌, ◌+◌, ◌≤◌, length};
 ghost use Rattle.dsl.specs.Domain.{Rate, Frames};
 ghost use Rattle.mix.specs.Mix.{silence, mixed, mixed_at};
 
-use crate::stages::{mix_attack, mix_decay, mix_release, mix_sustain};
+use crate::stages::mix_stage;
 use dsl::Adsr;
+use envelope::Stage::{Attack, Decay, Release, Sustain};
 
 // Plus zeros.
 pub fn clear(out: &mut [f32])
     ensures { out.new ≡ silence (length out.old) }
 {
-    let mut i = 0usize;
-    while i < out.len() {
-        out[i] = 0.0;
-        i += 1;
-    }
+    out.fill(0.0);
 }
 
 // Adds a note's samples to the frames from its start on, stage by stage of its envelope. `len` is the note's
@@ -32,14 +29,12 @@ fn mix(out: &mut [f32], note: &[f32], env: Adsr, len: usize, rate: u32, gain: f3
 {
     let n = note.len();
     let ends = envelope::adsr(env, len, n, rate);
-    let rel_start = ends.rel_start;
-    let attack = ends.attack;
-    let decay = ends.decay;
-    let sustain = ends.sustain;
-    mix_attack(out, note, 0, attack, env, rel_start, rate, gain);
-    mix_decay(out, note, attack, decay, env, rel_start, rate, gain);
-    mix_sustain(out, note, decay, sustain, env, rel_start, rate, gain);
-    mix_release(out, note, sustain, n, env, rel_start, rate, gain);
+    let rel = ends.rel_start;
+    let (attack, decay, sustain) = (ends.attack, ends.decay, ends.sustain);
+    mix_stage(Attack, out, note, 0, attack, env, rel, rate, gain);
+    mix_stage(Decay, out, note, attack, decay, env, rel, rate, gain);
+    mix_stage(Sustain, out, note, decay, sustain, env, rel, rate, gain);
+    mix_stage(Release, out, note, sustain, n, env, rel, rate, gain);
 }
 
 // Adds a note that starts at frame `start`. The mixer is lent the frames from there on, so that no

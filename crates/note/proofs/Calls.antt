@@ -19,10 +19,9 @@ use Rattle.outcome.specs.Answer.{Result, accepted, unless, seen, out_after, free
 use Rattle.note_verdict.specs.NoteRefusals.{NoteHanded, note_call_tests, note_call_refusal}
 use Rattle.note.specs.NoteCall.{NoteEvent, Voiced, note_handed_in, note_result_of, note_result_in, rng_after}
 use Rattle.note.specs.declared.answer.NoteAnswer.{NoteAnswer}
-use Rattle.outcome.specs.declared.answer.Outcome.TheVariants.{Played, Refused}
+use Rattle.std.specs.Prelude.{Ok, Err}
 use Rattle.outcome.specs.declared.answer.Refusal.{Refusal}
-use Rattle.outcome.specs.declared.answer.Verdict.{Verdict}
-use Rattle.outcome.specs.declared.answer.Verdict.TheVariants.{Fine, Refuse}
+use Rattle.outcome.specs.Outcome.{Verdict}
 use Rattle.outcome.proofs.First.{none_holds, inside_least, inside_most}
 
 -- what an accepted call's arguments are
@@ -34,7 +33,7 @@ pub record NoteAccepted (h : NoteHanded) : Type 0 where
   pub duties : length h.duty ≡ length h.pitch
   pub frames : h.n ≡ length h.pitch
 
-pub accepted_note_facts : (h : NoteHanded) → note_call_refusal h ≡ Fine → NoteAccepted h
+pub accepted_note_facts : (h : NoteHanded) → note_call_refusal h ≡ Ok tt → NoteAccepted h
 unfolding note_call_refusal
 accepted_note_facts h e =
     let (rate, (n, (_, (string, (_, (_, (_, (empty, (duties, (frames, _)))))))))) = none_holds (note_call_tests h) e in
@@ -65,7 +64,7 @@ module _ (e : NoteEvent) where
   unfolding note_result_of
   comes_to n = ap (λ (v : Verdict). unless v full) (sym n)
 
-  pub refused_note : {r : Refusal} → Refuse r ≡ at → e.answer ≡ record { rng = e.rng; outcome = Refused r } → e.out ≡ e.out₀ → e.string ≡ e.string₀ → Voiced e
+  pub refused_note : {r : Refusal} → Err r ≡ at → e.answer ≡ record { rng = e.rng; outcome = Err r } → e.out ≡ e.out₀ → e.string ≡ e.string₀ → Voiced e
   refused_note n ans o s =
       let q = comes_to n in record {
         answer = ap (λ (x : NoteAnswer). seen x.outcome e.out) ans ∙ sym q;
@@ -74,9 +73,9 @@ module _ (e : NoteEvent) where
         string = ap (drop (free 9600 (note_result_in e))) s;
       }
 
-  pub accepted_note : Fine ≡ at → (g : Rng) (t : ℕ) → t ≡ draws_of e.voice.wave e.voice.kit e.rate (get_or e.pitch 0 nan) (length e.out₀)
+  pub accepted_note : Ok tt ≡ at → (g : Rng) (t : ℕ) → t ≡ draws_of e.voice.wave e.voice.kit e.rate (get_or e.pitch 0 nan) (length e.out₀)
       → g.0 ≡ state_after e.rng.0 (draws_of e.voice.wave e.voice.kit e.rate (pitch_at (reading (Curve 0) 1) e.pitch 0) (length e.out₀))
-      → e.answer ≡ record { rng = g; outcome = Played t }
+      → e.answer ≡ record { rng = g; outcome = Ok t }
       → e.out ≡ note_frames e.rate e.voice e.gain (pitch_at (reading (Curve 0) 1) e.pitch) (pitch_at (reading (Curve 0) 1) e.duty) e.rng.0 (length e.out₀)
       → drop 9600 e.string ≡ drop 9600 e.string₀ → Voiced e
   accepted_note n g t et eg ans o s =

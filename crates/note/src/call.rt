@@ -4,7 +4,7 @@ ghost use Rattle.note.specs.NoteCall.{Voiced};
 use crate::answer::{NoteAnswer, refused};
 use dsl::{Pitch, Reading, SeqVoice};
 use note_verdict::note_call_verdict;
-use outcome::{Outcome, Verdict};
+use outcome::Refusal;
 use rng::Rng;
 
 // Fills `out` with a note whose pitch and duty at each frame are those of `pitch` and `duty`, and
@@ -35,8 +35,7 @@ pub fn seq_note_signal(
     }) }
 {
     let n = out.len();
-    let verdict = note_call_verdict(rate, voice, gain, pitch, duty, n, string.len());
-    if let Verdict::Refuse(r) = verdict {
+    if let Err(r) = note_call_verdict(rate, voice, gain, pitch, duty, n, string.len()) {
         return refused(rng, r);
     }
     let wave = voice.wave;
@@ -48,6 +47,6 @@ pub fn seq_note_signal(
     );
     NoteAnswer {
         rng: after,
-        outcome: Outcome::Played(e as u64),
+        outcome: Ok(e as u64),
     }
 }

@@ -6,7 +6,7 @@ use Rattle.dsl.specs.declared.knobs.SeqVoice.{SeqVoice}
 use Rattle.outcome.specs.First.{Test, ◌⇒◌, first_of}
 use Rattle.outcome.specs.Domain.{domain_tests}
 use Rattle.outcome.specs.declared.answer.Refusal.TheVariants.{Knobs, StringBuffer, Size, NoPitch, Lengths}
-use Rattle.outcome.specs.declared.answer.Verdict.{Verdict}
+use Rattle.outcome.specs.Outcome.{Verdict}
 
 -- What a note call is handed, as values: n and `string` are the lengths of the output and of the string buffer.
 pub record NoteHanded : Type 0 where

@@ -5,9 +5,10 @@ ghost use Rattle.std.specs.Prelude.{◌≡◌};
 ghost use Rattle.note_verdict.specs.NoteRefusals.{note_call_refusal};
 
 use dsl::SeqVoice;
-use outcome::{Refusal, Verdict, or_else};
+use outcome::{Refusal, refuse_if};
 
 // `n` is the output's length, `string` the string buffer's.
+#[tactic(auto, unfolding(crate::specs::NoteRefusals::note_call_refusal, outcome::specs::First::first_of))]
 pub fn note_call_verdict(
     rate: u32,
     voice: SeqVoice,
@@ -16,7 +17,7 @@ pub fn note_call_verdict(
     duty: &[f32],
     n: usize,
     string: usize,
-) -> Verdict
+) -> Result<(), Refusal>
     ensures { result ≡ note_call_refusal (record {
       rate = rate;
       voice = voice;
@@ -27,13 +28,13 @@ pub fn note_call_verdict(
       string = string;
     }) }
 {
-    let found = outcome::domain_verdict(rate, n);
-    let found = or_else(found, !dsl::knobs_sized(voice), Refusal::Knobs);
-    let found = or_else(found, string < 9600, Refusal::StringBuffer);
-    let found = or_else(found, !dsl::is_sized(gain), Refusal::Size);
-    let found = or_else(found, !dsl::all_sized(pitch), Refusal::Size);
-    let found = or_else(found, !dsl::all_sized(duty), Refusal::Size);
-    let found = or_else(found, pitch.len() == 0, Refusal::NoPitch);
-    let found = or_else(found, duty.len() != pitch.len(), Refusal::Lengths);
-    or_else(found, n != pitch.len(), Refusal::Lengths)
+    outcome::domain_verdict(rate, n)?;
+    refuse_if(!dsl::knobs_sized(voice), Refusal::Knobs)?;
+    refuse_if(string < 9600, Refusal::StringBuffer)?;
+    refuse_if(!dsl::is_sized(gain), Refusal::Size)?;
+    refuse_if(!dsl::all_sized(pitch), Refusal::Size)?;
+    refuse_if(!dsl::all_sized(duty), Refusal::Size)?;
+    refuse_if(pitch.len() == 0, Refusal::NoPitch)?;
+    refuse_if(duty.len() != pitch.len(), Refusal::Lengths)?;
+    refuse_if(n != pitch.len(), Refusal::Lengths)
 }

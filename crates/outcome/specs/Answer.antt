@@ -1,12 +1,9 @@
 -- What a call comes to, by 01's numbers, and what it leaves.
-use Rattle.std.specs.Prelude.{ℕ, List, [], Float}
+use Rattle.std.specs.Prelude.{ℕ, List, [], Float, Ok, Err}
 use Rattle.outcome.specs.declared.answer.Refusal.{Refusal}
 use Rattle.outcome.specs.declared.answer.Refusal.TheVariants.{NoStation, Rate, Frames, Tempo, StepsPerBeat, Tone, TempoPoints, TempoOrder, Groove, Knobs, Hop, Words}
 use Rattle.outcome.specs.declared.answer.Refusal.TheVariants.{Kind, Steps, Size, Lane, Reach, NoPitch, Lengths, NoteBuffer, StringBuffer, Draws}
-use Rattle.outcome.specs.declared.answer.Outcome.{Outcome}
-use Rattle.outcome.specs.declared.answer.Outcome.TheVariants.{Played, Refused}
-use Rattle.outcome.specs.declared.answer.Verdict.{Verdict}
-use Rattle.outcome.specs.declared.answer.Verdict.TheVariants.{Fine, Refuse}
+use Rattle.outcome.specs.Outcome.{Outcome, Verdict}
 
 -- 01's number of a refusal
 abbrev pub number_of : Refusal → ℕ
@@ -40,13 +37,13 @@ pub data Result : Type 0 where
 
 -- r, unless it is refused
 abbrev pub unless : Verdict → Result → Result
-unless Fine r = r
-unless (Refuse why) r = refused (number_of why)
+unless (Ok _) r = r
+unless (Err why) r = refused (number_of why)
 
 -- an answer with the frames that were left
 abbrev pub seen : Outcome → List Float → Result
-seen (Played draws) out = accepted draws out
-seen (Refused r) out = refused (number_of r)
+seen (Ok draws) out = accepted draws out
+seen (Err r) out = refused (number_of r)
 
 -- a refusal's number, 0 for an accepted call
 abbrev pub number_of_result : Result → ℕ

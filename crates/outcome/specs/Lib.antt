@@ -1,3 +1,4 @@
+pub mod Outcome
 pub mod Answer
 pub mod First
 pub mod Domain

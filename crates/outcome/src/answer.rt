@@ -1,4 +1,4 @@
-// What a call answers. The numbers of the refusals are `number_of` of specs/Answer.
+// Why a call is refused. The numbers of the refusals are `number_of` of specs/Answer.
 ghost use Rattle.std.specs.Prelude.{◌≡◌};
 ghost use Rattle.outcome.specs.Answer.{number_of};
 
@@ -57,18 +57,4 @@ impl Refusal {
             Refusal::Draws => 22,
         }
     }
-}
-
-// The draws made, or why nothing was done.
-#[derive(Clone, Copy)]
-pub enum Outcome {
-    Played(u64),
-    Refused(Refusal),
-}
-
-// What a call's tests find.
-#[derive(Clone, Copy)]
-pub enum Verdict {
-    Fine,
-    Refuse(Refusal),
 }

@@ -1,25 +1,18 @@
 // What a call's tests find, test after test.
-ghost use Rattle.std.specs.Prelude.{◌≡◌, cond};
-ghost use Rattle.outcome.specs.declared.answer.Verdict.TheVariants.{Fine, Refuse};
-ghost use Rattle.outcome.specs.First.{or_else, first_after, outside};
+ghost use Rattle.std.specs.Prelude.{◌≡◌, cond, Ok, Err};
+ghost use Rattle.outcome.specs.First.{first_after, outside};
 ghost use Rattle.outcome.specs.Domain.{domain_tests};
 
-use crate::answer::{Refusal, Verdict};
+use crate::answer::Refusal;
 
-// The refusal that was found before, or this one where its test holds.
-pub fn or_else(found: Verdict, test: bool, refusal: Refusal) -> Verdict
-    ensures { result ≡ or_else found (cond test (Refuse refusal) Fine) }
+// This refusal, where its test holds.
+pub fn refuse_if(test: bool, refusal: Refusal) -> Result<(), Refusal>
+    ensures { result ≡ cond test (Err refusal) (Ok tt) }
 {
-    match found {
-        Verdict::Refuse(first) => Verdict::Refuse(first),
-        Verdict::Fine => {
-            if test {
-                Verdict::Refuse(refusal)
-            } else {
-                Verdict::Fine
-            }
-        }
+    if test {
+        return Err(refusal);
     }
+    Ok(())
 }
 
 // Whether x lies outside low to high.
@@ -33,9 +26,9 @@ pub fn outside(x: u32, low: u32, high: u32) -> bool
 }
 
 // 1 and 2, for an output of n frames.
-pub fn domain_verdict(rate: u32, n: usize) -> Verdict
-    ensures { result ≡ first_after Fine (domain_tests rate n) }
+pub fn domain_verdict(rate: u32, n: usize) -> Result<(), Refusal>
+    ensures { result ≡ first_after (Ok tt) (domain_tests rate n) }
 {
-    let found = or_else(Verdict::Fine, outside(rate, 8000, 192000), Refusal::Rate);
-    or_else(found, n > 16777216, Refusal::Frames)
+    refuse_if(outside(rate, 8000, 192000), Refusal::Rate)?;
+    refuse_if(n > 16777216, Refusal::Frames)
 }

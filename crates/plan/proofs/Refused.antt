@@ -6,8 +6,8 @@ use borrow.Author.Tests.{le-ltb}
 use lib.Dec.{ltb}
 use Rattle.outcome.specs.First.{◌⇒◌, first_of, or_else, first_refusal}
 use Rattle.outcome.specs.declared.answer.Refusal.TheVariants.{Draws}
-use Rattle.outcome.specs.declared.answer.Verdict.{Verdict}
-use Rattle.outcome.specs.declared.answer.Verdict.TheVariants.{Fine}
+use Rattle.outcome.specs.Outcome.{Verdict}
+use Rattle.std.specs.Prelude.{Ok}
 use Rattle.score.specs.Score.{Score, notes_in, draws_in, note_draws}
 use Rattle.score.specs.Refusals.{number_tests, voice_tests, list_tests, call_tests, note_refusal, refusal, refusal_at}
 use Rattle.score.proofs.Accepted.{accepted_score}
@@ -46,5 +46,5 @@ module _ (s : Score) (room : s.n ≤ s.room) (string : 9600 ≤ s.string) where
   refused_alike_at d = λ j. or_else (refused_alike j) (first_of ((ltb (2 ^ 64 - 1) (d + totals_equal s j) ⇒ Draws) ∷ []))
 
 -- THE THEOREM: a list that passes the checks before 22 is refused with 22 by both or by neither
-pub agree_on_22 : (s : Score) → refusal s ≡ Fine → (d : ℕ) → plan_refusal_at s d ≡ refusal_at s d
+pub agree_on_22 : (s : Score) → refusal s ≡ Ok tt → (d : ℕ) → plan_refusal_at s d ≡ refusal_at s d
 agree_on_22 s ok d = let fit = (accepted_score s ok).fit in refused_alike_at s fit.buffered fit.stringed d

@@ -5,20 +5,17 @@ use mathlib.Core.List.{List}
 use native.Mathlib.Omega.{arith}
 use borrow.Author.Tests.{lt-ltb, le-ltb}
 use lib.Ieee.{Float}
-use Rattle.outcome.specs.declared.answer.Outcome.{Outcome}
-use Rattle.outcome.specs.declared.answer.Outcome.TheVariants.{Played, Refused}
+use Rattle.outcome.specs.Outcome.{Outcome}
+use Rattle.std.specs.Prelude.{Option, Ok, Err, None, Some, ok_or}
 use Rattle.outcome.specs.declared.answer.Refusal.{Refusal}
 use Rattle.outcome.specs.declared.answer.Refusal.TheVariants.{NoStation, Draws}
-use Rattle.outcome.specs.declared.answer.Verdict.{Verdict}
-use Rattle.outcome.specs.declared.answer.Verdict.TheVariants.{Fine, Refuse}
+use Rattle.outcome.specs.Outcome.{Verdict}
 use Rattle.score.specs.Score.{Score, draws_in, note_draws, score_draws}
 use Rattle.score.specs.Refusals.{note_refusal, refusal, refusal_at}
 use Rattle.score.specs.declared.seq.Seq.{Seq}
 use Rattle.score_draws.specs.Sum.{sum_of}
-use Rattle.score_draws.specs.declared.Sum.TheVariants.{Over, Total}
 use Rattle.score_draws.proofs.Last.{sum_over, total_exact, total_fits, refused_first, refused_last, refused_not}
 use Rattle.session.specs.Named.{named_in}
-use Rattle.session.specs.declared.session.Named.TheVariants as sessions
 use Rattle.session.specs.declared.session.Session.{Session}
 use Rattle.session.specs.declared.station.Station.{Station}
 use Rattle.session.proofs.Naming.{named_one, named_none}
@@ -43,25 +40,29 @@ module _ (seq : Seq) (notes : List ℕ) (lane : List Float) (n d : ℕ) where
   outcome_by : (v : Verdict) → v ≡ refusal_at lent_just d → outcome_of v (score_draws lent_just) ≡ planned_at (unlent seq notes lane n) d
   outcome_by v e = ap (λ (w : Verdict). outcome_of w (score_draws lent_just)) e ∙ sym outcome_is
 
-  pub refused_plan : {r : Refusal} → Refuse r ≡ refusal lent_just → Refused r ≡ planned_at (unlent seq notes lane n) d
-  refused_plan {r} e = outcome_by (Refuse r) (refused_first lent_just d e)
+  pub refused_plan : {r : Refusal} → Err r ≡ refusal lent_just → Err r ≡ planned_at (unlent seq notes lane n) d
+  refused_plan {r} e = outcome_by (Err r) (refused_first lent_just d e)
 
-  module _ (none : Fine ≡ refusal lent_just) (fits : d < 2 ^ 64) where
-    pub overdrawn_plan : Over ≡ sum_of (2 ^ 64 - 1 - d) (score_draws lent_just) → Refused Draws ≡ planned_at (unlent seq notes lane n) d
-    overdrawn_plan o = outcome_by (Refuse Draws) (refused_last lent_just d none fits (sum_over (2 ^ 64 - 1 - d) (score_draws lent_just) o))
+  module _ (none : Ok tt ≡ refusal lent_just) (fits : d < 2 ^ 64) where
+    overdrawn_plan : None ≡ sum_of (2 ^ 64 - 1 - d) (score_draws lent_just) → Err Draws ≡ planned_at (unlent seq notes lane n) d
+    overdrawn_plan o = outcome_by (Err Draws) (refused_last lent_just d none fits (sum_over (2 ^ 64 - 1 - d) (score_draws lent_just) o))
 
-    pub accepted_plan : (t : ℕ) → Total t ≡ sum_of (2 ^ 64 - 1 - d) (score_draws lent_just) → Played t ≡ planned_at (unlent seq notes lane n) d
+    accepted_plan : (t : ℕ) → Some t ≡ sum_of (2 ^ 64 - 1 - d) (score_draws lent_just) → Ok t ≡ planned_at (unlent seq notes lane n) d
     accepted_plan t o =
-        ap Played (total_exact (2 ^ 64 - 1 - d) (score_draws lent_just) t o)
-        ∙ outcome_by Fine (refused_not lent_just d none fits (total_fits (2 ^ 64 - 1 - d) (score_draws lent_just) t o))
+        ap Ok (total_exact (2 ^ 64 - 1 - d) (score_draws lent_just) t o)
+        ∙ outcome_by (Ok tt) (refused_not lent_just d none fits (total_fits (2 ^ 64 - 1 - d) (score_draws lent_just) t o))
+
+    pub summed_plan : (o : Option ℕ) → o ≡ sum_of (2 ^ 64 - 1 - d) (score_draws lent_just) → ok_or o Draws ≡ planned_at (unlent seq notes lane n) d
+    summed_plan None e = overdrawn_plan e
+    summed_plan (Some t) e = accepted_plan t e
 
 -- on a session: 33 first
 module _ (a : Session) (k : ℕ) (s : Score) where
-  pub no_station_lem : named_in a k ≡ sessions.NoStation → Refused NoStation ≡ plan_on a k s
+  pub no_station_lem : named_in a k ≡ None → Err NoStation ≡ plan_on a k s
   unfolding plan_on
   no_station_lem none = rw (lt-ltb 7 k (named_none a k none)) refl
 
-  pub on_station_lem : {x : Station} → named_in a k ≡ sessions.One x → {o : Outcome} → o ≡ planned_at s x.draw → o ≡ plan_on a k s
+  pub on_station_lem : {x : Station} → named_in a k ≡ Some x → {o : Outcome} → o ≡ planned_at s x.draw → o ≡ plan_on a k s
   unfolding plan_on
   on_station_lem named e =
       let one = named_one a k named in

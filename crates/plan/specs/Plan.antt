@@ -1,14 +1,12 @@
 -- The planning call: "The planning screen lists notes by start frame, ties by list place, and adds draws as it goes down".
-use Rattle.std.specs.Prelude.{ℕ, ◌+◌, ◌-◌, ◌^◌, ◌≡◌, List, [], ◌∷◌, map, cond, ltb, eqb, Float}
+use Rattle.std.specs.Prelude.{ℕ, ◌+◌, ◌-◌, ◌^◌, ◌≡◌, List, [], ◌∷◌, map, cond, ltb, eqb, Float, Ok, Err}
 use Rattle.laws.specs.Listed.{listed}
 use Rattle.dsl.specs.Note.{of_note}
 use Rattle.outcome.specs.Answer.{number_of}
 use Rattle.outcome.specs.First.{Test, ◌⇒◌, first_of, or_else, first_refusal}
-use Rattle.outcome.specs.declared.answer.Outcome.{Outcome}
-use Rattle.outcome.specs.declared.answer.Outcome.TheVariants.{Played, Refused}
+use Rattle.outcome.specs.Outcome.{Outcome}
 use Rattle.outcome.specs.declared.answer.Refusal.TheVariants.{NoStation, Draws}
-use Rattle.outcome.specs.declared.answer.Verdict.{Verdict}
-use Rattle.outcome.specs.declared.answer.Verdict.TheVariants.{Fine, Refuse}
+use Rattle.outcome.specs.Outcome.{Verdict}
 use Rattle.score.specs.Score.{Score, note_in, note_count, notes_in, place, note_draws, sum}
 use Rattle.score.specs.Refusals.{call_tests, note_refusal}
 use Rattle.score.specs.declared.seq.Seq.{Seq}
@@ -56,8 +54,8 @@ unfoldable pub plan_refusal_at : Score → ℕ → Verdict
 plan_refusal_at s d = or_else (plan_refusal s) (first_of ((ltb (2 ^ 64 - 1) (d + planned_draws s) ⇒ Draws) ∷ []))
 
 abbrev pub outcome_of : Verdict → ℕ → Outcome
-outcome_of Fine draws = Played draws
-outcome_of (Refuse r) draws = Refused r
+outcome_of (Ok _) draws = Ok draws
+outcome_of (Err r) draws = Err r
 
 -- "else reports the total": what a planning call comes to at the count d
 unfoldable pub planned_at : Score → ℕ → Outcome
@@ -65,7 +63,7 @@ planned_at s d = outcome_of (plan_refusal_at s d) (planned_draws s)
 
 -- on station k of the session a: 33 comes first, and 22 looks at that station's count
 unfoldable pub plan_on : Session → ℕ → Score → Outcome
-plan_on a k s = cond (ltb 7 k) (Refused NoStation) (planned_at s (count_in a k))
+plan_on a k s = cond (ltb 7 k) (Err NoStation) (planned_at s (count_in a k))
 
 -- The contract of a planning call on station k of the session a: it "leaves the session as it was".
 pub record Planned (a : Session) (k : ℕ) (s : Score) (r : Plan) : Type 0 where

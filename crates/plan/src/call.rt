@@ -2,16 +2,16 @@
 ghost use Rattle.plan.specs.Plan.{unlent, Planned};
 
 use crate::total::total_draws;
-use outcome::{Outcome, Refusal};
+use outcome::Refusal;
 use score::Seq;
-use session::{Named, Session};
+use session::Session;
 
 // What a planning call answers: the session as it was, and the draws that the score call would make or why it would be
 // refused.
 #[derive(Clone, Copy)]
 pub struct Plan {
     pub session: Session,
-    pub outcome: Outcome,
+    pub outcome: Result<u64, Refusal>,
 }
 
 // The draws of a score call with this session and input and an output of n frames, which is not made. It is refused as
@@ -27,10 +27,10 @@ pub fn planned_draws(
 ) -> Plan
     ensures { Planned session station (unlent seq notes.now lane.now n) result }
 {
-    let Named::One(one) = session.named(station) else {
+    let Some(one) = session.named(station) else {
         return Plan {
             session,
-            outcome: Outcome::Refused(Refusal::NoStation),
+            outcome: Err(Refusal::NoStation),
         };
     };
     let outcome = total_draws(one.draw, seq, notes, lane, n);

@@ -2,13 +2,18 @@
 ghost use Rattle.std.specs.Prelude.{◌≡◌};
 ghost use Rattle.plan.specs.Plan.{unlent, planned_at};
 
-use outcome::{Outcome, Refusal, Verdict};
+use outcome::Refusal;
 use score::{Lent, Seq};
-use score_draws::Sum;
 
 // On a station whose count is `draw`. The notes are added in list order: the sum is that of the sorted list.
 // Nothing is lent, so that the lengths are those that 20 and 21 let pass.
-pub(crate) fn total_draws(draw: u64, seq: Seq, notes: &[u32], lane: &[f32], n: usize) -> Outcome
+pub(crate) fn total_draws(
+    draw: u64,
+    seq: Seq,
+    notes: &[u32],
+    lane: &[f32],
+    n: usize,
+) -> Result<u64, Refusal>
     ensures { result ≡ planned_at (unlent seq notes.now lane.now n) draw }
 {
     let lent = Lent {
@@ -16,12 +21,6 @@ pub(crate) fn total_draws(draw: u64, seq: Seq, notes: &[u32], lane: &[f32], n: u
         room: n,
         string: 9600,
     };
-    if let Verdict::Refuse(r) = score_verdict::score_verdict(seq, notes, lane, lent) {
-        return Outcome::Refused(r);
-    }
-    let sum = score_draws::score_draws(seq, notes, lane, lent, u64::MAX - draw);
-    let Sum::Total(d) = sum else {
-        return Outcome::Refused(Refusal::Draws);
-    };
-    Outcome::Played(d)
+    score_verdict::score_verdict(seq, notes, lane, lent)?;
+    score_draws::score_draws(seq, notes, lane, lent, u64::MAX - draw).ok_or(Refusal::Draws)
 }

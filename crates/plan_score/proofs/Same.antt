@@ -7,11 +7,10 @@ use lib.Dec.{ltb}
 use lib.ListN.{length}
 use lib.Ieee.{Float}
 use Rattle.outcome.specs.Answer.{number_of, refused, accepted, unless, seen, out_after}
-use Rattle.outcome.specs.declared.answer.Outcome.{Outcome}
-use Rattle.outcome.specs.declared.answer.Outcome.TheVariants.{Played, Refused}
+use Rattle.outcome.specs.Outcome.{Outcome}
+use Rattle.std.specs.Prelude.{Ok, Err}
 use Rattle.outcome.specs.declared.answer.Refusal.TheVariants.{NoStation}
-use Rattle.outcome.specs.declared.answer.Verdict.{Verdict}
-use Rattle.outcome.specs.declared.answer.Verdict.TheVariants.{Fine, Refuse}
+use Rattle.outcome.specs.Outcome.{Verdict}
 use Rattle.score.specs.Score.{Score, score_draws}
 use Rattle.score.specs.Refusals.{refusal_at}
 use Rattle.score_contract.specs.Frames.{score_frames}
@@ -25,8 +24,8 @@ use Rattle.plan.proofs.Refused.{unlent_plan, refused_alike_at}
 use Rattle.plan.proofs.Totals.{totals_equal}
 
 seen_of : (v : Verdict) (draws : ℕ) (frames : List Float) → seen (outcome_of v draws) frames ≡ unless v (accepted draws frames)
-seen_of Fine draws frames = refl
-seen_of (Refuse r) draws frames = refl
+seen_of (Ok _) draws frames = refl
+seen_of (Err r) draws frames = refl
 
 module _ (a : Session) (k : ℕ) (s : Score) (room : s.n ≤ s.room) (string : 9600 ≤ s.string) where
   -- the frames of the score call
@@ -45,14 +44,14 @@ module _ (a : Session) (k : ℕ) (s : Score) (room : s.n ≤ s.room) (string : 9
   plan_as_score = by (ltb 7 k)
     where
       by : (b : Bool)
-          → seen (cond b (Refused NoStation) (planned_at s (station_in a k).draw)) frames_of ≡ cond b (refused (number_of NoStation)) (result_of s (station_in a k).rng.0 (station_in a k).draw)
+          → seen (cond b (Err NoStation) (planned_at s (station_in a k).draw)) frames_of ≡ cond b (refused (number_of NoStation)) (result_of s (station_in a k).rng.0 (station_in a k).draw)
       by true = refl
       by false = named
 
 -- an outcome that comes to a result is seen with the frames that the result leaves
 seen_left : (o : Outcome) (frames out₀ : List Float) → seen o (out_after out₀ (seen o frames)) ≡ seen o frames
-seen_left (Played d) frames out₀ = refl
-seen_left (Refused r) frames out₀ = refl
+seen_left (Ok d) frames out₀ = refl
+seen_left (Err r) frames out₀ = refl
 
 -- THE THEOREM, of two calls that were made on one session with the same input: they answer the same
 pub answers_alike : (a : Session) (e : SessionEvent) (p : Plan) → SessionScored a e → Planned a e.station (unlent e.seq e.notes e.lane (length e.out₀)) p

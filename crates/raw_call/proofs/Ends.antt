@@ -4,8 +4,8 @@ use mathlib.Core.List.{List, []}
 use lib.ListN.{drop}
 use lib.Ieee.{Float}
 use Rattle.outcome.specs.Answer.{Result, seen, number_of_result, reported, out_after, free}
-use Rattle.outcome.specs.declared.answer.Outcome.{Outcome}
-use Rattle.outcome.specs.declared.answer.Outcome.TheVariants.{Played, Refused}
+use Rattle.outcome.specs.Outcome.{Outcome}
+use Rattle.std.specs.Prelude.{Ok, Err}
 use Rattle.raw_call.specs.Called.{none, made, Places, Holds}
 
 module _ (p : Places) where
@@ -14,12 +14,12 @@ module _ (p : Places) where
 
 -- number and draws of an outcome, whatever the frames are
 number_seen : (a : Outcome) (out : List Float) → number_of_result (seen a []) ≡ number_of_result (seen a out)
-number_seen (Played t) out = refl
-number_seen (Refused r) out = refl
+number_seen (Ok t) out = refl
+number_seen (Err r) out = refl
 
 draws_seen : (a : Outcome) (out : List Float) → reported (seen a []) ≡ reported (seen a out)
-draws_seen (Played t) out = refl
-draws_seen (Refused r) out = refl
+draws_seen (Ok t) out = refl
+draws_seen (Err r) out = refl
 
 -- a call that comes to x, with what its contract says of the frames and the string; a is the outcome that it answers
 pub record Returned (p : Places) (x : Result) (a : Outcome) : Type 0 where

@@ -6,19 +6,12 @@ use borrow.Author.Tests.{eqb-true}
 use lib.Dec.{eqb}
 use Rattle.dsl.specs.declared.knobs.Adsr.{Adsr}
 use Rattle.dsl.specs.declared.knobs.SeqVoice.{SeqVoice}
-use Rattle.raw_knobs.specs.declared.VoiceAt.{VoiceAt}
-use Rattle.raw_knobs.specs.declared.VoiceAt.TheVariants.{Voice}
-use Rattle.raw_knobs.specs.declared.VoiceAt.TheVariants as voices
-use Rattle.raw_knobs.specs.declared.EnvAt.{EnvAt}
-use Rattle.raw_knobs.specs.declared.EnvAt.TheVariants.{Env}
-use Rattle.raw_knobs.specs.declared.EnvAt.TheVariants as envelopes
-use Rattle.raw_call.specs.Raw.{whole_of, parts_with}
-use Rattle.raw_call.specs.declared.raw.Parts.{Parts}
-use Rattle.raw_call.specs.declared.raw.Parts.TheVariants.{Both, Nothing}
+use Rattle.std.specs.Prelude.{Option, Some, None}
+use Rattle.raw_call.specs.Raw.{Parts, whole_of, parts_with}
 
 abbrev found : Parts → Bool
-found (Both v a) = true
-found Nothing = false
+found (Some (v, a)) = true
+found None = false
 
 module _ (seeds counts points : ℕ) where
   abbrev Eights : Type 0
@@ -29,11 +22,11 @@ module _ (seeds counts points : ℕ) where
   whole_eight true false s t e = absurd (true≢false (sym e))
   whole_eight false c s t e = absurd (true≢false (sym e))
 
-  found_whole : (v : VoiceAt) (m : EnvAt) (b : Bool) → whole_of seeds counts points ≡ b → true ≡ found (parts_with v m b) → Eights
-  found_whole (Voice v) (Env m) true all e = whole_eight (eqb seeds 8) (eqb counts 8) refl refl all
-  found_whole (Voice v) (Env m) false all e = absurd (true≢false e)
-  found_whole (Voice v) envelopes.Nothing b all e = absurd (true≢false e)
-  found_whole voices.Nothing m b all e = absurd (true≢false e)
+  found_whole : (v : Option SeqVoice) (m : Option Adsr) (b : Bool) → whole_of seeds counts points ≡ b → true ≡ found (parts_with v m b) → Eights
+  found_whole (Some v) (Some m) true all e = whole_eight (eqb seeds 8) (eqb counts 8) refl refl all
+  found_whole (Some v) (Some m) false all e = absurd (true≢false e)
+  found_whole (Some v) None b all e = absurd (true≢false e)
+  found_whole None m b all e = absurd (true≢false e)
 
-  pub call_eights : (x : VoiceAt) (m : EnvAt) (v : SeqVoice) (a : Adsr) → Both v a ≡ parts_with x m (whole_of seeds counts points) → Eights
+  pub call_eights : (x : Option SeqVoice) (m : Option Adsr) (v : SeqVoice) (a : Adsr) → Some (v, a) ≡ parts_with x m (whole_of seeds counts points) → Eights
   call_eights x m v a is = found_whole x m (whole_of seeds counts points) refl (ap found is)

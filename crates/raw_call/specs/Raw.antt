@@ -1,19 +1,11 @@
 -- What a score call and a planning call are handed beside their station, notes and lane, as numbers and lists; and the voice and the envelope, the session and the `Seq` that these stand for.
-use Rattle.std.specs.Prelude.{ℕ, ◌%◌, List, Bool, false, cond, eqb, length, Float}
+use Rattle.std.specs.Prelude.{ℕ, ◌%◌, List, Bool, false, cond, eqb, length, Float, Option, Some, None}
 use Rattle.dsl.specs.declared.knobs.Adsr.{Adsr}
 use Rattle.dsl.specs.declared.knobs.SeqVoice.{SeqVoice}
 use Rattle.score.specs.declared.seq.Seq.{Seq}
 use Rattle.session.specs.declared.session.Session.{Session}
 use Rattle.raw_knobs.specs.Knobs.{voice_at, env_at}
-use Rattle.raw_knobs.specs.declared.VoiceAt.{VoiceAt}
-use Rattle.raw_knobs.specs.declared.VoiceAt.TheVariants.{Voice}
-use Rattle.raw_knobs.specs.declared.VoiceAt.TheVariants as voices
-use Rattle.raw_knobs.specs.declared.EnvAt.{EnvAt}
-use Rattle.raw_knobs.specs.declared.EnvAt.TheVariants.{Env}
-use Rattle.raw_knobs.specs.declared.EnvAt.TheVariants as envelopes
 use Rattle.raw_map.specs.Words.{map_of}
-use Rattle.raw_call.specs.declared.raw.Parts.{Parts}
-use Rattle.raw_call.specs.declared.raw.Parts.TheVariants.{Both, Nothing}
 
 -- `points` has the words of the tempo map, `counts` the stations' draw counts.
 pub record Raw : Type 0 where
@@ -57,11 +49,15 @@ seq_with v a h = seq_by h.rate h.tempo h.steps_per_beat h.points h.swing h.human
 abbrev pub whole_of : ℕ → ℕ → ℕ → Bool
 whole_of seeds counts points = cond (eqb seeds 8) (cond (eqb counts 8) (eqb (points % 4) 0) false) false
 
--- nothing without a voice, an envelope and whole lists
-abbrev pub parts_with : VoiceAt → EnvAt → Bool → Parts
-parts_with (Voice v) (Env a) whole = cond whole (Both v a) Nothing
-parts_with (Voice v) envelopes.Nothing whole = Nothing
-parts_with voices.Nothing env whole = Nothing
+-- a voice and an envelope, or none where no call is made
+abbrev pub Parts : Type 0
+Parts = Option (SeqVoice × Adsr)
+
+-- none without a voice, an envelope and whole lists
+abbrev pub parts_with : Option SeqVoice → Option Adsr → Bool → Parts
+parts_with (Some v) (Some a) whole = cond whole (Some (v, a)) None
+parts_with (Some v) None whole = None
+parts_with None env whole = None
 
 abbrev pub parts_in : Raw → Parts
 parts_in h = parts_with (voice_at h.wave h.style h.knobs h.bars) (env_at h.env) (whole_of (length h.seeds) (length h.counts) (length h.points))

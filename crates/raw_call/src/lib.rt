@@ -7,5 +7,5 @@ mod raw; // raw.rt: a voice, an envelope and a `Seq` from numbers and slices
 mod sessions; // sessions.rt: eight seeds and eight counts
 
 pub use outcomes::{draws_of, number_of};
-pub use raw::{Parts, parts_at, seq_of};
+pub use raw::{parts_at, seq_of};
 pub use sessions::{put_count, session_of};

@@ -2,24 +2,21 @@
 ghost use Rattle.std.specs.Prelude.{◌≡◌, []};
 ghost use Rattle.outcome.specs.Answer.{seen, number_of_result, reported};
 
-use outcome::Outcome;
+use outcome::Refusal;
 
 // A refusal's number, 0 for an accepted call.
-pub fn number_of(outcome: Outcome) -> u32
+pub fn number_of(outcome: Result<u64, Refusal>) -> u32
     ensures { result ≡ number_of_result (seen outcome []) }
 {
     match outcome {
-        Outcome::Played(_) => 0,
-        Outcome::Refused(refusal) => refusal.number(),
+        Ok(_) => 0,
+        Err(refusal) => refusal.number(),
     }
 }
 
 // The draws made, 0 for a refusal.
-pub fn draws_of(outcome: Outcome) -> u64
+pub fn draws_of(outcome: Result<u64, Refusal>) -> u64
     ensures { result ≡ reported (seen outcome []) }
 {
-    match outcome {
-        Outcome::Played(draws) => draws,
-        Outcome::Refused(_) => 0,
-    }
+    outcome.unwrap_or(0)
 }

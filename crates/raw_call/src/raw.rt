@@ -5,18 +5,12 @@ ghost use Rattle.raw_call.specs.Raw.{whole_of, parts_with, seq_by};
 
 use crate::sessions::whole;
 use dsl::{Adsr, SeqVoice};
-use raw_knobs::{EnvAt, VoiceAt, env_at, voice_at};
+use raw_knobs::{env_at, voice_at};
 use score::{Seq, Timing};
 
-// The voice and the envelope of a call, or nothing where no call is made.
-#[derive(Clone, Copy)]
-pub enum Parts {
-    Both(SeqVoice, Adsr),
-    Nothing,
-}
-
-// Nothing, where there are not eight seeds and counts, there is no such wave or style, there are not 22 knobs, 10 numbers
-// of drawbars and 5 of an envelope, or the words of the points are no multiple of four.
+// The voice and the envelope of a call, or none where no call is made: where there are not eight seeds and counts, there
+// is no such wave or style, there are not 22 knobs, 10 numbers of drawbars and 5 of an envelope, or the words of the
+// points are no multiple of four.
 pub fn parts_at(
     seeds: usize,
     counts: usize,
@@ -26,19 +20,15 @@ pub fn parts_at(
     knobs: &[f32],
     bars: &[f32],
     env: &[f32],
-) -> Parts
+) -> Option<(SeqVoice, Adsr)>
     ensures { result ≡ parts_with (voice_at wave style knobs.now bars.now) (env_at env.now) (whole_of seeds counts points) }
 {
-    let VoiceAt::Voice(voice) = voice_at(wave, style, knobs, bars) else {
-        return Parts::Nothing;
-    };
-    let EnvAt::Env(env) = env_at(env) else {
-        return Parts::Nothing;
-    };
+    let voice = voice_at(wave, style, knobs, bars)?;
+    let env = env_at(env)?;
     if !whole(seeds, counts, points) {
-        return Parts::Nothing;
+        return None;
     }
-    Parts::Both(voice, env)
+    Some((voice, env))
 }
 
 pub fn seq_of(

@@ -22,9 +22,9 @@ fn eight(values: &[u64]) -> [u64; 8]
     requires { length values.now ≡ 8 }
     ensures { result ≡ values.now }
 {
-    [
-        values[0], values[1], values[2], values[3], values[4], values[5], values[6], values[7],
-    ]
+    let mut eight = [0; 8];
+    eight.copy_from_slice(values);
+    eight
 }
 
 pub fn session_of(seeds: &[u64], counts: &[u64]) -> Session
@@ -47,6 +47,5 @@ pub fn put_count(counts: &mut [u64], station: u32, after: Session)
         return;
     }
     let k = station as usize;
-    let draw = after.draws[k];
-    counts[k] = draw;
+    counts[k] = after.draws[k];
 }

@@ -8,22 +8,7 @@ ghost use Rattle.raw_knobs.specs.Knobs.{knob_from, voice_at, env_at};
 
 use dsl::{
     Adsr, BassKnobs, Drawbars, FmKnobs, KitStyle, PianoKnobs, PluckKnobs, SeqVoice, SeqWave,
-    StyleAt, WaveAt,
 };
-
-// A voice, or nothing where there is no such wave or style, or there are not 22 knobs and 10 numbers of drawbars.
-#[derive(Clone, Copy)]
-pub enum VoiceAt {
-    Voice(SeqVoice),
-    Nothing,
-}
-
-// An envelope, or nothing where there are not 5 values.
-#[derive(Clone, Copy)]
-pub enum EnvAt {
-    Env(Adsr),
-    Nothing,
-}
 
 fn fm_knobs(k: &[f32]) -> FmKnobs
     requires { length k.now ≡ 22 }
@@ -97,48 +82,35 @@ fn drawbars(b: &[f32]) -> Drawbars
     }
 }
 
-pub fn voice_at(wave: u32, style: u32, knobs: &[f32], bars: &[f32]) -> VoiceAt
+// None where there is no such wave or style, or there are not 22 knobs and 10 numbers of drawbars.
+#[tactic(auto, unfolding(crate::specs::Knobs::voice_at))]
+pub fn voice_at(wave: u32, style: u32, knobs: &[f32], bars: &[f32]) -> Option<SeqVoice>
     ensures { result ≡ voice_at wave style knobs.now bars.now }
 {
     if knobs.len() != 22 {
-        return VoiceAt::Nothing;
+        return None;
     }
     if bars.len() != 10 {
-        return VoiceAt::Nothing;
+        return None;
     }
-    let WaveAt::Wave(wave) = SeqWave::at(wave) else {
-        return VoiceAt::Nothing;
-    };
-    let StyleAt::Style(kit) = KitStyle::at(style) else {
-        return VoiceAt::Nothing;
-    };
-    let fm = fm_knobs(knobs);
-    let pluck = pluck_knobs(knobs);
-    let piano = piano_knobs(knobs);
-    let bass = bass_knobs(knobs);
-    let bars = drawbars(bars);
-    VoiceAt::Voice(SeqVoice {
-        wave,
-        fm,
-        pluck,
-        piano,
-        bass,
-        bars,
-        kit,
+    Some(SeqVoice {
+        wave: SeqWave::at(wave)?,
+        fm: fm_knobs(knobs),
+        pluck: pluck_knobs(knobs),
+        piano: piano_knobs(knobs),
+        bass: bass_knobs(knobs),
+        bars: drawbars(bars),
+        kit: KitStyle::at(style)?,
     })
 }
 
-pub fn env_at(env: &[f32]) -> EnvAt
+// None where there are not 5 values.
+#[tactic(auto, unfolding(crate::specs::Knobs::env_at))]
+pub fn env_at(env: &[f32]) -> Option<Adsr>
     ensures { result ≡ env_at env.now }
 {
-    if env.len() != 5 {
-        return EnvAt::Nothing;
-    }
-    EnvAt::Env(Adsr {
-        a: env[0],
-        d: env[1],
-        s: env[2],
-        r: env[3],
-        punch: env[4],
-    })
+    let [a, d, s, r, punch] = *env else {
+        return None;
+    };
+    Some(Adsr { a, d, s, r, punch })
 }

@@ -1,16 +1,18 @@
 -- The loop that reads points, and the sign of a number. Assumes nothing.
 use Prim.Native.Nat.{ℕ, zero, suc, ◌+◌, ◌-◌, ◌*◌, ◌≤◌, ◌<◌}
 use mathlib.Core.Path.{◌≡◌, refl, sym, ap, ◌∙◌}
+use mathlib.Core.Bool.{Bool, true, false}
 use mathlib.Core.List.{List, [], ◌∷◌, ◌++◌, append_assoc}
 use native.Mathlib.Omega.{arith}
 use native.Mathlib.Numerals.{add-one}
 use lib.ListN.{length, get_or, set, drop}
 use lib.Seq.{drop-cons, set_at}
-use lib.IntN.{pos, negsuc, ◌-ℤ◌}
+use lib.IntN.{negsuc}
 use mir.Syntax.{w64}
 use mir.Val.{SFits, to_z, of_z}
 use mir.Facts.{to_z-of_z, to_z_pos}
-use borrow.Author.Tests.{lt-ltb, le-ltb}
+use borrow.Author.Tests.{lt-ltb, le-ltb, ltb-true, ltb-false}
+use lib.Dec.{ltb}
 use Rattle.raw_map.specs.Words.{signed_of}
 use Rattle.laws.specs.Listed.{listed_from, listed}
 use Rattle.laws.proofs.Listed.{listed_length, listed_more}
@@ -36,28 +38,25 @@ module _ (low high : ℕ) where
   abbrev pub pattern : ℕ
   pattern = high * 4294967296 + low
 
-  pub sign_none : high < 2147483648 → low < 4294967296 → to_z w64 pattern ≡ signed_of low high
+  sign_none : high < 2147483648 → low < 4294967296 → to_z w64 pattern ≡ signed_of low high
   unfolding signed_of
   sign_none h l = rw (lt-ltb high 2147483648 h) (to_z_pos w64 {n = pattern} (omega arith))
 
-  -- the machine's -1 less what is left above the pattern
+  -- what is left above the pattern
   abbrev pub above : ℕ
   above = 18446744073709551615 - pattern
 
-  minus_1 : (n : ℕ) → negsuc 0 -ℤ pos n ≡ negsuc n
-  minus_1 zero = refl
-  minus_1 (suc n) = ap negsuc (omega arith)
+  sign_some : 2147483648 ≤ high → high < 4294967296 → low < 4294967296 → to_z w64 pattern ≡ signed_of low high
+  unfolding signed_of
+  sign_some h hl l =
+      let small : above < 9223372036854775808 = omega arith in
+      let fits : SFits w64 (negsuc above) = record { sfits = small } in
+      let is : pattern ≡ of_z w64 (negsuc above) = omega arith in
+      rw (le-ltb high 2147483648 h) (ap (to_z w64) is ∙ to_z-of_z fits)
 
-  module _ (h : 2147483648 ≤ high) (hl : high < 4294967296) (l : low < 4294967296) where
-    above_small : above < 9223372036854775808
-    above_small = omega arith
+  by_sign : high < 4294967296 → low < 4294967296 → (b : Bool) → ltb high 2147483648 ≡ b → to_z w64 pattern ≡ signed_of low high
+  by_sign hl l true e = sign_none (ltb-true high 2147483648 e) l
+  by_sign hl l false e = sign_some (ltb-false high 2147483648 e) hl l
 
-    fits_above : SFits w64 (negsuc above)
-    fits_above = record { sfits = above_small }
-
-    pub sign_fits : SFits w64 (negsuc 0 -ℤ to_z w64 above)
-    sign_fits = rw (to_z_pos w64 {n = above} above_small, minus_1 above) fits_above
-
-    pub sign_some : to_z w64 (of_z w64 (negsuc 0 -ℤ to_z w64 above)) ≡ signed_of low high
-    unfolding signed_of
-    sign_some = rw (to_z_pos w64 {n = above} above_small, minus_1 above, le-ltb high 2147483648 h) (to_z-of_z fits_above)
+  pub sign_is : high < 4294967296 → low < 4294967296 → to_z w64 pattern ≡ signed_of low high
+  sign_is hl l = by_sign hl l (ltb high 2147483648) refl

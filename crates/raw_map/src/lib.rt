@@ -14,10 +14,7 @@ fn signed(low: u32, high: u32) -> i64
     ensures { result ≡ signed_of low high }
 {
     let bits = (high as u64) * 4294967296 + low as u64;
-    if high < 2147483648 {
-        return bits as i64;
-    }
-    -1 - ((18446744073709551615 - bits) as i64)
+    bits.cast_signed()
 }
 
 fn point_in(words: &[u32], i: usize) -> TempoPoint
@@ -42,10 +39,8 @@ fn points_in(words: &[u32], n: usize) -> [TempoPoint; 64]
 {
     let none = TempoMap::none();
     let mut points = none.points;
-    let mut i = 0usize;
-    while i < n {
+    for i in 0..n {
         points[i] = point_in(words, i);
-        i += 1;
     }
     points
 }
@@ -55,14 +50,8 @@ pub fn map_of(words: &[u32]) -> TempoMap
     ensures { result ≡ map_of words.now }
 {
     let n = words.len() / 4;
-    if n > 64 {
-        return TempoMap {
-            points: points_in(words, 64),
-            count: 65,
-        };
-    }
     TempoMap {
-        points: points_in(words, n),
-        count: n as u32,
+        points: points_in(words, n.min(64)),
+        count: n.min(65) as u32,
     }
 }

@@ -1,13 +1,11 @@
 -- A planning call from numbers and lists: the planning call's own definition.
-use Rattle.std.specs.Prelude.{ℕ, ◌≡◌, List, [], Float}
+use Rattle.std.specs.Prelude.{ℕ, ◌≡◌, List, [], Float, Some, None}
 use Rattle.outcome.specs.Answer.{seen}
 use Rattle.plan.specs.Plan.{unlent, plan_on}
 use Rattle.score.specs.Score.{Score}
 use Rattle.score.specs.declared.seq.Seq.{Seq}
 use Rattle.raw_call.specs.Called.{Called, none, made, number_of_call, draws_after_call}
-use Rattle.raw_call.specs.Raw.{Raw, session_in, seq_with, parts_in}
-use Rattle.raw_call.specs.declared.raw.Parts.{Parts}
-use Rattle.raw_call.specs.declared.raw.Parts.TheVariants.{Both, Nothing}
+use Rattle.raw_call.specs.Raw.{Parts, Raw, session_in, seq_with, parts_in}
 
 -- What was handed in, as in a score call's `ScoreExport`, n frames in the place of the buffers, and what was answered.
 pub record PlanExport : Type 0 where
@@ -26,8 +24,8 @@ planned_with q e = unlent q e.notes e.lane e.n
 
 -- a planning call leaves no frames
 abbrev pub plan_called_on : Parts → PlanExport → Called
-plan_called_on (Both v a) e = made (seen (plan_on (session_in e.raw) e.station (planned_with (seq_with v a e.raw) e)) [])
-plan_called_on Nothing e = none
+plan_called_on (Some (v, a)) e = made (seen (plan_on (session_in e.raw) e.station (planned_with (seq_with v a e.raw) e)) [])
+plan_called_on None e = none
 
 abbrev pub plan_called : PlanExport → Called
 plan_called e = plan_called_on (parts_in e.raw) e

@@ -3,7 +3,7 @@
 
 ghost use Rattle.raw_plan.specs.Plan.{PlanExported};
 
-use raw_call::{Parts, draws_of, number_of, parts_at, seq_of, session_of};
+use raw_call::{draws_of, number_of, parts_at, seq_of, session_of};
 
 // As `tono_seq::render_seq`, with the n frames of its output as a number and no buffers: 0 where the call is accepted, else the
 // refusal's number. `draws` gets the total, 0 for a refusal. Where `parts_at` finds nothing, the answer is 4294967295 and
@@ -57,7 +57,7 @@ pub fn planned_draws(
       draws = draws.new;
     }) }
 {
-    let Parts::Both(voice, env) = parts_at(
+    let Some((voice, env)) = parts_at(
         seeds.len(),
         counts.len(),
         points.len(),

@@ -20,7 +20,7 @@ use Rattle.dsl.proofs.Magnitude.{sized_numeric}
 use Rattle.dsl.proofs.Reach.{passes_less}
 use Rattle.dsl.proofs.Cases.{NoNote, by_words}
 use Rattle.outcome.specs.First.{first_of}
-use Rattle.outcome.specs.declared.answer.Verdict.TheVariants.{Fine}
+use Rattle.std.specs.Prelude.{Ok}
 use Rattle.outcome.proofs.First.{none_holds, or_fine, inside_least, inside_most, each_fine}
 use Rattle.score.specs.Score.{Score, rate_in, note_in, note_count, place}
 use Rattle.tempo.specs.Judge.{in_domain, in_order}
@@ -37,7 +37,7 @@ pub record NoteFine (s : Score) (m : SeqNote) : Type 0 where
   pub number : numeric m.pitch
   pub reached : passes m.pitch s.seq.hop (length s.lane) (place s m).len ≡ false
 
-pub note_fine : (s : Score) (m : SeqNote) → note_refusal s (Note m) ≡ Fine → NoteFine s m
+pub note_fine : (s : Score) (m : SeqNote) → note_refusal s (Note m) ≡ Ok tt → NoteFine s m
 unfolding note_refusal
 note_fine s m e =
     let (a, (b, (c, (d, (f, _))))) = none_holds (note_tests s m) e in
@@ -51,10 +51,10 @@ note_fine s m e =
     }
 
 -- words that are no note are refused
-pub no_note : (s : Score) (e : Decoded) → NoNote e → note_refusal s e ≡ Fine → ⊥
+pub no_note : (s : Score) (e : Decoded) → NoNote e → note_refusal s e ≡ Ok tt → ⊥
 unfolding note_refusal
 no_note s e none =
-    by_words (λ e. of_note {A = ℕ} 1 (λ m. 0) e ≡ 1 → note_refusal s e ≡ Fine → ⊥) (λ m no fine. let z : ◌≡◌ {A = ℕ} 0 1 = no in omega arith)
+    by_words (λ e. of_note {A = ℕ} 1 (λ m. 0) e ≡ 1 → note_refusal s e ≡ Ok tt → ⊥) (λ m no fine. let z : ◌≡◌ {A = ℕ} 0 1 = no in omega arith)
     (λ u no fine. let (_, (_, (_, (always, _)))) = none_holds (untuned_tests u) fine in true≢false always)
     (λ no fine. let z : ◌≡◌ {A = ℕ} 0 1 = cc in omega arith) e (none.other 1 (λ m. 0))
 
@@ -88,7 +88,7 @@ pub record Fit (s : Score) : Type 0 where
   pub fives : length s.notes % 5 ≡ 0
   pub lane : all_sized s.lane ≡ true
 
-pub fit : (s : Score) → first_of (call_tests s) ≡ Fine → Fit s
+pub fit : (s : Score) → first_of (call_tests s) ≡ Ok tt → Fit s
 fit s e =
     let (rate, (n, (tempo, (steps, (points, (order, (swing, (human, (knobs, (duty, (env, (room, (string, (hop, (words, (lane, _)))))))))))))))) = none_holds (call_tests s) e in
     record {
@@ -132,7 +132,7 @@ pub record Accepted (s : Score) : Type 0 where
   pub fit : Fit s
   pub clean : Clean s
 
-pub accepted_score : (s : Score) → refusal s ≡ Fine → Accepted s
+pub accepted_score : (s : Score) → refusal s ≡ Ok tt → Accepted s
 unfolding refusal
 accepted_score s e =
     let both = or_fine (first_of (call_tests s)) _ e in
@@ -142,7 +142,7 @@ accepted_score s e =
     }
 
 -- ---- note k of an accepted score
-module _ (s : Score) (ok : refusal s ≡ Fine) (k : ℕ) (lt : k < note_count s) (m : SeqNote) (is : note_in s k ≡ Note m) where
+module _ (s : Score) (ok : refusal s ≡ Ok tt) (k : ℕ) (lt : k < note_count s) (m : SeqNote) (is : note_in s k ≡ Note m) where
   pub fine_in : NoteFine s m
   fine_in = clean_note s (accepted_score s ok).clean k lt m is
 

@@ -8,7 +8,7 @@ use borrow.Author.Tests.{ne_eqb}
 use lib.Dec.{ltb, eqb}
 use Rattle.quarter_tone.specs.Tones.{tone_at}
 use Rattle.quarter_tone.specs.Lookup.{tone_of}
-use Rattle.quarter_tone.specs.declared.QuarterTone.TheVariants.{Tone, Nothing}
+use Rattle.std.specs.Prelude.{None, Some, Ok, Err}
 use Rattle.dsl.specs.Note.{tuned_of, note_of}
 use Rattle.dsl.specs.declared.note.SeqNote.{SeqNote}
 use Rattle.dsl.specs.declared.note.Untuned.{Untuned}
@@ -16,20 +16,19 @@ use Rattle.dsl.specs.declared.note.Decoded.TheVariants.{Note, NoTone}
 use Rattle.outcome.specs.Answer.{number_of}
 use Rattle.outcome.specs.First.{Test, first_of}
 use Rattle.outcome.specs.declared.answer.Refusal.TheVariants.{Kind}
-use Rattle.outcome.specs.declared.answer.Verdict.{Verdict}
-use Rattle.outcome.specs.declared.answer.Verdict.TheVariants.{Fine, Refuse}
+use Rattle.outcome.specs.Outcome.{Verdict}
 use Rattle.score.specs.Score.{Score}
 use Rattle.score.specs.Refusals.{note_tests, untuned_tests, note_refusal}
 
 -- whether 8 refuses
 abbrev eight : Verdict → Bool
-eight Fine = false
-eight (Refuse why) = eqb (number_of why) 8
+eight (Ok _) = false
+eight (Err why) = eqb (number_of why) 8
 
 -- no test of a list has the number 8
 abbrev Others : List Test → Type 0
 Others [] = Unit
-Others (t ∷ ts) = (eight (Refuse t.refusal) ≡ false) × Others ts
+Others (t ∷ ts) = (eight (Err t.refusal) ≡ false) × Others ts
 
 neither : (b : Bool) (v w : Verdict) → eight v ≡ false → eight w ≡ false → eight (cond b v w) ≡ false
 neither true v w p q = p
@@ -38,7 +37,7 @@ neither false v w p q = q
 others : (ts : List Test) → Others ts → eight (first_of ts) ≡ false
 unfolding first_of
 others [] o = refl
-others (t ∷ ts) o = neither t.holds (Refuse t.refusal) (first_of ts) o.0 (others ts o.1)
+others (t ∷ ts) o = neither t.holds (Err t.refusal) (first_of ts) o.0 (others ts o.1)
 
 module _ (s : Score) where
   of_note_lem : (m : SeqNote) → eight (note_refusal s (Note m)) ≡ false
@@ -50,7 +49,7 @@ module _ (s : Score) where
   of_untuned u = others (untuned_tests u) (refl, (refl, (refl, (refl, tt))))
 
 module _ (s : Score) (step len word gain : ℕ) where
-  of_tone : (b : Bool) → eight (note_refusal s (tuned_of step len (cond b (Tone (tone_at word)) Nothing) gain)) ≡ false
+  of_tone : (b : Bool) → eight (note_refusal s (tuned_of step len (cond b (Some (tone_at word)) None) gain)) ≡ false
   of_tone true = of_note_lem s _
   of_tone false = of_untuned s _
 
@@ -63,10 +62,10 @@ module _ (s : Score) (step len word gain : ℕ) where
 
 module _ (s : Score) (step len kind word gain : ℕ) where
   -- THE THEOREM: a kind above 2 is refused with 8
-  pub kind_refused : 2 < kind → note_refusal s (note_of step len kind word gain) ≡ Refuse Kind
+  pub kind_refused : 2 < kind → note_refusal s (note_of step len kind word gain) ≡ Err Kind
   unfolding note_refusal note_of
   kind_refused h = rw (ne_eqb kind 0 (λ e. omega arith), ne_eqb kind 1 (λ e. omega arith), ne_eqb kind 2 (λ e. omega arith))
 
   -- and nothing else is
-  pub kind_only : note_refusal s (note_of step len kind word gain) ≡ Refuse Kind → 2 < kind
+  pub kind_only : note_refusal s (note_of step len kind word gain) ≡ Err Kind → 2 < kind
   kind_only e = to_2 s step len word gain kind (ap eight e)

@@ -11,7 +11,7 @@ use Rattle.tempo.specs.declared.map.TempoMap.{TempoMap}
 use Rattle.outcome.specs.First.{Test, ◌⇒◌, first_of, or_else, first_refusal, outside}
 use Rattle.outcome.specs.Domain.{domain_tests}
 use Rattle.outcome.specs.declared.answer.Refusal.TheVariants.{Tempo, StepsPerBeat, Groove}
-use Rattle.outcome.specs.declared.answer.Verdict.{Verdict}
+use Rattle.outcome.specs.Outcome.{Verdict}
 use Rattle.outcome.proofs.First.{first_append}
 use Rattle.score.specs.Score.{Score, notes_in}
 use Rattle.score.specs.Refusals.{number_tests, voice_tests, lent_tests, list_tests, note_refusal, refusal}

@@ -1,6 +1,6 @@
 -- A score as 01 alone has it, with no hop: "a curve at frame i is the lane's value at offset + i", which is `value_at` of dsl/specs/Pitch. That a score whose hop is 1 is refused and
 -- played so: proofs/EachFrame.
-use Rattle.std.specs.Prelude.{ℕ, ◌+◌, ◌-◌, ◌%◌, ◌^◌, List, [], ◌∷◌, ◌++◌, map, Bool, false, not, cond, length, ltb, eqb}
+use Rattle.std.specs.Prelude.{ℕ, ◌+◌, ◌-◌, ◌%◌, ◌^◌, List, [], ◌∷◌, ◌++◌, map, Bool, false, not, cond, length, ltb, eqb, Err}
 use Rattle.dsl.specs.Sized.{all_sized}
 use Rattle.dsl.specs.Note.{of_words, of_note}
 use Rattle.dsl.specs.Pitch.{value_at}
@@ -11,8 +11,7 @@ use Rattle.dsl.specs.declared.note.Decoded.{Decoded}
 use Rattle.draws.specs.Draws.{draws_of}
 use Rattle.outcome.specs.First.{Test, ◌⇒◌, first_of, or_else, first_refusal}
 use Rattle.outcome.specs.declared.answer.Refusal.TheVariants.{Words, Lane, Kind, Reach, Draws}
-use Rattle.outcome.specs.declared.answer.Verdict.{Verdict}
-use Rattle.outcome.specs.declared.answer.Verdict.TheVariants.{Refuse}
+use Rattle.outcome.specs.Outcome.{Verdict}
 use Rattle.score.specs.Score.{Score, rate_in, wave_in, kit_in, notes_in, place, skips, sum}
 use Rattle.score.specs.Refusals.{number_tests, voice_tests, lent_tests, value_tests, untuned_tests}
 
@@ -30,7 +29,7 @@ module _ (s : Score) where
   each_note_tests m = value_tests m ++ (each_passes m.pitch (length s.lane) (place s m).len ⇒ Reach) ∷ []
 
   unfoldable pub each_note_refusal : Decoded → Verdict
-  each_note_refusal = of_words (Refuse Kind) (λ u. first_of (untuned_tests u)) (λ m. first_of (each_note_tests m))
+  each_note_refusal = of_words (Err Kind) (λ u. first_of (untuned_tests u)) (λ m. first_of (each_note_tests m))
 
   -- all but 22
   unfoldable pub each_refusal : Verdict

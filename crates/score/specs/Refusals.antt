@@ -1,5 +1,5 @@
 -- The refusals of a score call, in 01's order. `number_of` (outcome/specs/Answer) has their numbers.
-use Rattle.std.specs.Prelude.{ℕ, ◌+◌, ◌-◌, ◌%◌, ◌^◌, ◌<◌, ◌≡◌, List, [], ◌∷◌, ◌++◌, map, true, not, length, ltb, eqb, Float}
+use Rattle.std.specs.Prelude.{ℕ, ◌+◌, ◌-◌, ◌%◌, ◌^◌, ◌<◌, ◌≡◌, List, [], ◌∷◌, ◌++◌, map, true, not, length, ltb, eqb, Float, Ok, Err}
 use Rattle.ieee.specs.Numbers.{c0, c1, c1000}
 use Rattle.ieee.specs.Order.{within_of}
 use Rattle.dsl.specs.Sized.{sized_of, all_sized, pitch_sized}
@@ -15,8 +15,7 @@ use Rattle.outcome.specs.First.{Test, ◌⇒◌, first_of, or_else, first_refusa
 use Rattle.outcome.specs.Domain.{domain_tests}
 use Rattle.outcome.specs.declared.answer.Refusal.TheVariants.{Tempo, StepsPerBeat, TempoPoints, TempoOrder, Groove, Knobs, NoteBuffer, StringBuffer, Hop}
 use Rattle.outcome.specs.declared.answer.Refusal.TheVariants.{Words, Lane, Kind, Steps, Size, Reach, Tone, Draws}
-use Rattle.outcome.specs.declared.answer.Verdict.{Verdict}
-use Rattle.outcome.specs.declared.answer.Verdict.TheVariants.{Fine, Refuse}
+use Rattle.outcome.specs.Outcome.{Verdict}
 use Rattle.score.specs.Score.{Score, note_in, note_count, notes_in, place, score_draws}
 use Rattle.score.specs.declared.seq.Seq.{Seq}
 use Rattle.score.specs.declared.seq.Timing.{Timing}
@@ -71,7 +70,7 @@ untuned_tests u = word_tests u.step u.len u.gain ++ (true ⇒ Tone) ∷ []
 
 -- "8 now means a kind above 2"
 unfoldable pub note_refusal : Score → Decoded → Verdict
-note_refusal s = of_words (Refuse Kind) (λ u. first_of (untuned_tests u)) (λ m. first_of (note_tests s m))
+note_refusal s = of_words (Err Kind) (λ u. first_of (untuned_tests u)) (λ m. first_of (note_tests s m))
 
 -- "then note by note": all but 22
 unfoldable pub refusal : Score → Verdict
@@ -83,4 +82,4 @@ refusal_at s d = or_else (refusal s) (first_of ((ltb (2 ^ 64 - 1) (d + score_dra
 
 -- every note is one that is not refused
 abbrev pub Clean : Score → Type 0
-Clean s = (k : ℕ) → k < note_count s → note_refusal s (note_in s k) ≡ Fine
+Clean s = (k : ℕ) → k < note_count s → note_refusal s (note_in s k) ≡ Ok tt

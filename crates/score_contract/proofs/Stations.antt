@@ -14,7 +14,7 @@ use Rattle.session.specs.Opened.{seed_in, count_in, station_at, session_at, stat
 use Rattle.session.specs.Named.{named_in, answered_in, no_station}
 use Rattle.session.specs.declared.session.Session.{Session}
 use Rattle.session.specs.declared.session.Answer.{Answer}
-use Rattle.session.specs.declared.session.Named.TheVariants.{One, NoStation}
+use Rattle.std.specs.Prelude.{None, Some}
 use Rattle.session.specs.declared.station.Station.{Station}
 use Rattle.session.specs.declared.station.StationAnswer.{StationAnswer}
 use Rattle.session.proofs.Naming.{named_one, named_none}
@@ -134,7 +134,7 @@ module _ (a : Session) (eight : Eight a) (e : SessionEvent) where
   k = e.station
 
   -- no station: 33
-  pub none_named : named_in a k ≡ NoStation → e.answer ≡ no_station a → e.out ≡ e.out₀ → e.buffer ≡ e.buffer₀ → e.string ≡ e.string₀ → SessionScored a e
+  pub none_named : named_in a k ≡ None → e.answer ≡ no_station a → e.out ≡ e.out₀ → e.buffer ≡ e.buffer₀ → e.string ≡ e.string₀ → SessionScored a e
   none_named none-such ans o b s =
       let past = named_none a k none-such in
       let q = nowhere a e past in
@@ -150,7 +150,7 @@ module _ (a : Session) (eight : Eight a) (e : SessionEvent) where
       }
 
   -- the count of the station after its call is put back, and its generator handed on
-  pub put_back : {x : Station} → named_in a k ≡ One x → (one : StationAnswer) → Scored x (answered e one) → e.answer ≡ answered_in a k one → SessionScored a e
+  pub put_back : {x : Station} → named_in a k ≡ Some x → (one : StationAnswer) → Scored x (answered e one) → e.answer ≡ answered_in a k one → SessionScored a e
   put_back is one on-it ans =
       let lt = (named_one a k is).0 in
       let scored = subst (λ (x : Station). Scored x (answered e one)) (named_one a k is).1 on-it in

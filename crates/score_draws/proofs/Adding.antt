@@ -8,7 +8,7 @@ use Rattle.laws.proofs.If.{if_true, if_false}
 use Rattle.score.specs.Score.{Score, note_in, note_count, note_draws, draws_before, score_draws}
 use Rattle.score.proofs.Notes.{draws_all}
 use Rattle.score_draws.specs.Sum.{sum_of}
-use Rattle.score_draws.specs.declared.Sum.TheVariants.{Over, Total}
+use Rattle.std.specs.Prelude.{None, Some}
 
 -- What holds before note k.
 pub record Added (s : Score) (left k total : ℕ) : Type 0 where
@@ -33,7 +33,7 @@ module _ {s : Score} {left : ℕ} where
 
   module _ {k total e : ℕ} (h : Added s left k total) (lt : k < note_count s) (is : e ≡ note_draws s (note_in s k)) where
     -- the note's draws pass what is left of it
-    pub added_over : left - total < e → Over ≡ sum_of left (score_draws s)
+    pub added_over : left - total < e → None ≡ sum_of left (score_draws s)
     added_over over =
         let z : k + 1 + (note_count s - (k + 1)) ≡ note_count s = omega arith in
         let most : draws_before s (k + 1) ≤ draws_before s (note_count s) = rw z at (draws_more s (k + 1) (note_count s - (k + 1))) in
@@ -43,9 +43,9 @@ module _ {s : Score} {left : ℕ} where
     pub added_more : e ≤ left - total → Added s left (k + 1) (total + e)
     added_more under = record { is = omega (arith, draws_one s k, h.is); fits = omega (arith, h.fits); within = omega arith }
 
-  pub added_all : {k total : ℕ} → Added s left k total → note_count s ≤ k → Total total ≡ sum_of left (score_draws s)
+  pub added_all : {k total : ℕ} → Added s left k total → note_count s ≤ k → Some total ≡ sum_of left (score_draws s)
   added_all {k} {total} h end =
       let z : k ≡ note_count s = omega (arith, h.within) in
       let all : total ≡ score_draws s = h.is ∙ ap (draws_before s) z ∙ sym (draws_all s) in
       let under : score_draws s ≤ left = omega (arith, h.fits) in
-      if_false _ (le-ltb _ _ under) (ap Total all)
+      if_false _ (le-ltb _ _ under) (ap Some all)

@@ -8,7 +8,7 @@ use Rattle.dsl.specs.declared.note.SeqNote.{SeqNote}
 use Rattle.dsl.specs.declared.note.Decoded.{Decoded}
 use Rattle.dsl.proofs.Cases.{by_kind}
 use Rattle.draws.proofs.Few.{draws_most}
-use Rattle.outcome.specs.declared.answer.Verdict.TheVariants.{Fine}
+use Rattle.std.specs.Prelude.{Ok}
 use Rattle.score.specs.Refusals.{refusal}
 use Rattle.score.specs.Score.{Score, rate_in, wave_in, kit_in, note_in, note_count, place, skips, pitch, draws_in, note_draws, draws_before, score_draws}
 use Rattle.score.proofs.Accepted.{Fit, accepted_score}
@@ -42,7 +42,7 @@ module _ (s : Score) (fit : Fit s) where
   before_most (suc k) = omega (arith, before_most k, note_most (note_in s k))
 
 -- as many notes as that allows draw no more than what is left
-pub few_fit : (s : Score) (left : ℕ) → refusal s ≡ Fine → note_count s ≤ left / 16777216 → score_draws s ≤ left
+pub few_fit : (s : Score) (left : ℕ) → refusal s ≡ Ok tt → note_count s ≤ left / 16777216 → score_draws s ≤ left
 few_fit s left ok few =
     let all : draws_before s (note_count s) ≤ note_count s * most = before_most s (accepted_score s ok).fit (note_count s) in
     let times : note_count s * most ≤ left / most * most = mul-le-mul_right most few in

@@ -1,8 +1,7 @@
 // Whether the draws of a score pass what is left.
 #![tactic(auto)]
 
-ghost use Rattle.std.specs.Prelude.{◌≡◌, ◌/◌, ◌<◌, length, leb};
-ghost use Rattle.outcome.specs.declared.answer.Verdict.TheVariants.{Fine};
+ghost use Rattle.std.specs.Prelude.{◌≡◌, ◌/◌, ◌<◌, length, leb, Ok};
 ghost use Rattle.score.specs.Score.{score_of, note_in, note_draws, score_draws};
 ghost use Rattle.score.specs.Refusals.{refusal};
 ghost use Rattle.score_draws.specs.Sum.{sum_of};
@@ -12,7 +11,7 @@ use score::{Lent, Seq};
 
 // The draws of note k: none where it is skipped.
 pub fn note_draws(seq: Seq, notes: &[u32], lane: &[f32], lent: Lent, k: usize) -> usize
-    requires lent_value { refusal (score_of seq notes.now lane.now lent) ≡ Fine }
+    requires lent_value { refusal (score_of seq notes.now lane.now lent) ≡ Ok tt }
     requires k_in_bounds { k < length notes.now / 5 }
     ensures { result ≡ note_draws (score_of seq notes.now lane.now lent) (note_in (score_of seq notes.now lane.now lent) k) }
 {
@@ -32,31 +31,22 @@ pub fn note_draws(seq: Seq, notes: &[u32], lane: &[f32], lent: Lent, k: usize) -
     draws::draw_count(wave, kit, timing.rate, reading.at(lane, 0), place.sounded)
 }
 
-// A sum that may not be more than what is left.
-#[derive(Clone, Copy)]
-pub enum Sum {
-    Over,
-    Total(u64),
-}
-
-// The draws of all notes, or that they pass `left`. What is added never passes `left`, so that the sum
+// The draws of all notes: none where they pass `left`. What is added never passes `left`, so that the sum
 // cannot overflow.
-pub fn score_draws(seq: Seq, notes: &[u32], lane: &[f32], lent: Lent, left: u64) -> Sum
-    requires { refusal (score_of seq notes.now lane.now lent) ≡ Fine }
+pub fn score_draws(seq: Seq, notes: &[u32], lane: &[f32], lent: Lent, left: u64) -> Option<u64>
+    requires { refusal (score_of seq notes.now lane.now lent) ≡ Ok tt }
     ensures { result ≡ sum_of left (score_draws (score_of seq notes.now lane.now lent)) }
 {
     let count = notes.len() / 5;
     let mut total = 0u64;
-    let mut k = 0usize;
-    while k < count {
+    for k in 0..count {
         let e = note_draws(seq, notes, lane, lent, k) as u64;
         if e > left - total {
-            return Sum::Over;
+            return None;
         }
         total += e;
-        k += 1;
     }
-    Sum::Total(total)
+    Some(total)
 }
 
 // A note makes at most as many draws as a call may have frames, 2^24 (the law `few_fit`).
@@ -64,16 +54,12 @@ const NOTE_MOST: u64 = 16777216;
 
 // Whether the draws of all notes are no more than `left`. So many notes that the sum is needed to tell are rare.
 pub fn draws_fit(seq: Seq, notes: &[u32], lane: &[f32], lent: Lent, left: u64) -> bool
-    requires { refusal (score_of seq notes.now lane.now lent) ≡ Fine }
+    requires { refusal (score_of seq notes.now lane.now lent) ≡ Ok tt }
     ensures { result ≡ leb (score_draws (score_of seq notes.now lane.now lent)) left }
 {
     let count = (notes.len() / 5) as u64;
     if count <= left / NOTE_MOST {
         return true;
     }
-    let sum = score_draws(seq, notes, lane, lent, left);
-    match sum {
-        Sum::Over => false,
-        Sum::Total(d) => d <= left,
-    }
+    score_draws(seq, notes, lane, lent, left).is_some()
 }

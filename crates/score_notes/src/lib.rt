@@ -1,23 +1,20 @@
 // The notes of an accepted score, one after the other.
 #![tactic(auto)]
 
-mod played; // played.rt: the same notes, with no count of their draws
-
-ghost use Rattle.std.specs.Prelude.{◌≡◌, ◌/◌, ◌^◌, ◌<◌, length, drop};
-ghost use Rattle.outcome.specs.declared.answer.Verdict.TheVariants.{Fine};
+ghost use Rattle.std.specs.Prelude.{◌≡◌, ◌/◌, ◌^◌, ◌<◌, length, drop, Ok};
+ghost use Rattle.rng.specs.SplitMix64.{state_after};
 ghost use Rattle.score.specs.Score.{score_of, note_in, note_draws, score_draws};
 ghost use Rattle.score.specs.Refusals.{refusal};
 ghost use Rattle.score_contract.specs.Frames.{with_note, score_frames};
 ghost use Rattle.score_note.specs.Drawn.{drawn_from};
 
 use dsl::Decoded;
-pub use played::play_notes;
 use rng::Rng;
 use score::{Lent, Seq};
 use score_note::Drawn;
 
 // Note k: nothing where it is skipped. The lent buffers are as long as `lent` says.
-pub(crate) fn play_note(
+fn play_note(
     rng: Rng,
     seq: Seq,
     notes: &[u32],
@@ -28,7 +25,7 @@ pub(crate) fn play_note(
     note_buf: &mut [f32],
     string: &mut [f32],
 ) -> Drawn
-    requires lent_value { refusal (score_of seq notes.now lane.now lent) ≡ Fine }
+    requires lent_value { refusal (score_of seq notes.now lane.now lent) ≡ Ok tt }
     requires k_in_bounds { k < length notes.now / 5 }
     requires out_len { length out.old ≡ lent.n }
     requires note_buf_len { length note_buf.old ≡ lent.room }
@@ -50,8 +47,42 @@ pub(crate) fn play_note(
     score_note::sound_counted(rng, seq, note, place, lane, out, note_buf, string)
 }
 
-// Fills the frames: plus zeros, and then each note in list order. Hands back the generator after all
-// of them, and the draws that they made in all.
+// Fills the frames: plus zeros, and then each note in list order. Hands back the generator after all of them, and
+// the draws that they made in all, where a count of 64 bits can hold them.
+fn play_each(
+    rng: Rng,
+    seq: Seq,
+    notes: &[u32],
+    lane: &[f32],
+    lent: Lent,
+    out: &mut [f32],
+    note_buf: &mut [f32],
+    string: &mut [f32],
+) -> Drawn
+    requires lent_value { refusal (score_of seq notes.now lane.now lent) ≡ Ok tt }
+    requires out_len { length out.old ≡ lent.n }
+    requires note_buf_len { length note_buf.old ≡ lent.room }
+    requires string_len { length string.old ≡ lent.string }
+    ensures state { result.rng.0 ≡ state_after rng.0 (score_draws (score_of seq notes.now lane.now lent)) }
+    ensures counted { score_draws (score_of seq notes.now lane.now lent) < 2 ^ 64 →
+        result ≡ drawn_from rng.0 (score_draws (score_of seq notes.now lane.now lent)) }
+    ensures out_after { out.new ≡ score_frames (score_of seq notes.now lane.now lent) rng.0 0 }
+    ensures note_buf_unchanged { drop lent.n note_buf.new ≡ drop lent.n note_buf.old }
+    ensures string_unchanged { drop 9600 string.new ≡ drop 9600 string.old }
+{
+    mix::clear(out);
+    let count = notes.len() / 5;
+    let mut after = rng;
+    let mut draws = 0u64;
+    for k in 0..count {
+        let played = play_note(after, seq, notes, lane, lent, k, out, note_buf, string);
+        after = played.rng;
+        draws = draws.wrapping_add(played.draws);
+    }
+    Drawn { rng: after, draws }
+}
+
+// The notes, with all their draws, which a count of 64 bits can hold.
 pub fn play_counted(
     rng: Rng,
     seq: Seq,
@@ -62,7 +93,7 @@ pub fn play_counted(
     note_buf: &mut [f32],
     string: &mut [f32],
 ) -> Drawn
-    requires lent_value { refusal (score_of seq notes.now lane.now lent) ≡ Fine }
+    requires lent_value { refusal (score_of seq notes.now lane.now lent) ≡ Ok tt }
     requires out_len { length out.old ≡ lent.n }
     requires note_buf_len { length note_buf.old ≡ lent.room }
     requires string_len { length string.old ≡ lent.string }
@@ -72,16 +103,28 @@ pub fn play_counted(
     ensures note_buf_unchanged { drop lent.n note_buf.new ≡ drop lent.n note_buf.old }
     ensures string_unchanged { drop 9600 string.new ≡ drop 9600 string.old }
 {
-    mix::clear(out);
-    let count = notes.len() / 5;
-    let mut after = rng;
-    let mut draws = 0u64;
-    let mut k = 0usize;
-    while k < count {
-        let played = play_note(after, seq, notes, lane, lent, k, out, note_buf, string);
-        after = played.rng;
-        draws += played.draws;
-        k += 1;
-    }
-    Drawn { rng: after, draws }
+    play_each(rng, seq, notes, lane, lent, out, note_buf, string)
+}
+
+// The notes, of which nobody counts the draws.
+pub fn play_notes(
+    rng: Rng,
+    seq: Seq,
+    notes: &[u32],
+    lane: &[f32],
+    lent: Lent,
+    out: &mut [f32],
+    note_buf: &mut [f32],
+    string: &mut [f32],
+) -> Rng
+    requires lent_value { refusal (score_of seq notes.now lane.now lent) ≡ Ok tt }
+    requires out_len { length out.old ≡ lent.n }
+    requires note_buf_len { length note_buf.old ≡ lent.room }
+    requires string_len { length string.old ≡ lent.string }
+    ensures value { result.0 ≡ state_after rng.0 (score_draws (score_of seq notes.now lane.now lent)) }
+    ensures out_after { out.new ≡ score_frames (score_of seq notes.now lane.now lent) rng.0 0 }
+    ensures note_buf_unchanged { drop lent.n note_buf.new ≡ drop lent.n note_buf.old }
+    ensures string_unchanged { drop 9600 string.new ≡ drop 9600 string.old }
+{
+    play_each(rng, seq, notes, lane, lent, out, note_buf, string).rng
 }

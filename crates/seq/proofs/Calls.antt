@@ -9,11 +9,10 @@ use lib.Dec.{leb}
 use Rattle.rng.specs.SplitMix64.{state_after}
 use Rattle.rng.specs.declared.Rng.{Rng}
 use Rattle.outcome.specs.Answer.{Result, accepted, unless, seen, out_after, free}
-use Rattle.outcome.specs.declared.answer.Outcome.TheVariants.{Played, Refused}
+use Rattle.std.specs.Prelude.{Ok, Err}
 use Rattle.outcome.specs.declared.answer.Refusal.{Refusal}
 use Rattle.outcome.specs.declared.answer.Refusal.TheVariants.{Draws}
-use Rattle.outcome.specs.declared.answer.Verdict.{Verdict}
-use Rattle.outcome.specs.declared.answer.Verdict.TheVariants.{Fine, Refuse}
+use Rattle.outcome.specs.Outcome.{Verdict}
 use Rattle.score.specs.Score.{score_draws}
 use Rattle.score_contract.specs.Frames.{score_frames}
 use Rattle.score.specs.Refusals.{refusal, refusal_at}
@@ -34,7 +33,7 @@ module _ (a : Station) (e : Event) where
   unfolding result_of
   comes_to n = ap (λ (v : Verdict). unless v full) (sym n)
 
-  refused_by : {r : Refusal} → Refuse r ≡ at → e.answer ≡ record { station = a; outcome = Refused r } → e.out ≡ e.out₀ → e.buffer ≡ e.buffer₀ → e.string ≡ e.string₀ → Scored a e
+  refused_by : {r : Refusal} → Err r ≡ at → e.answer ≡ record { station = a; outcome = Err r } → e.out ≡ e.out₀ → e.buffer ≡ e.buffer₀ → e.string ≡ e.string₀ → Scored a e
   refused_by n ans o b s =
       let q = comes_to n in record {
         answer = ap (λ (x : StationAnswer). seen x.outcome e.out) ans ∙ sym q;
@@ -44,8 +43,8 @@ module _ (a : Station) (e : Event) where
         string = ap (drop (free 9600 (result_in a e))) s;
       }
 
-  accepted_by_lem : Fine ≡ at → (g : Rng) (t : ℕ) → t ≡ score_draws (score_in e) → g.0 ≡ state_after a.rng.0 (score_draws (score_in e))
-      → e.answer ≡ record { station = record { rng = g; draw = a.draw + t }; outcome = Played t } → e.out ≡ score_frames (score_in e) a.rng.0 0
+  accepted_by_lem : Ok tt ≡ at → (g : Rng) (t : ℕ) → t ≡ score_draws (score_in e) → g.0 ≡ state_after a.rng.0 (score_draws (score_in e))
+      → e.answer ≡ record { station = record { rng = g; draw = a.draw + t }; outcome = Ok t } → e.out ≡ score_frames (score_in e) a.rng.0 0
       → drop (length e.out₀) e.buffer ≡ drop (length e.out₀) e.buffer₀ → drop 9600 e.string ≡ drop 9600 e.string₀ → Scored a e
   accepted_by_lem n g t et eg ans o b s =
       let q = comes_to n in record {
@@ -61,17 +60,17 @@ module _ (a : Station) (e : Event) where
   left = 2 ^ 64 - 1 - a.draw
 
   -- a refusal that is not 22
-  pub refused_call : {r : Refusal} → Refuse r ≡ refusal (score_in e) → e.answer ≡ record { station = a; outcome = Refused r } → e.out ≡ e.out₀ → e.buffer ≡ e.buffer₀
+  pub refused_call : {r : Refusal} → Err r ≡ refusal (score_in e) → e.answer ≡ record { station = a; outcome = Err r } → e.out ≡ e.out₀ → e.buffer ≡ e.buffer₀
       → e.string ≡ e.string₀ → Scored a e
   refused_call n = refused_by (refused_first (score_in e) a.draw n)
 
-  module _ (none : Fine ≡ refusal (score_in e)) (fits : a.draw < 2 ^ 64) where
-    pub overdrawn_call : leb (score_draws (score_in e)) left ≡ false → e.answer ≡ record { station = a; outcome = Refused Draws } → e.out ≡ e.out₀ → e.buffer ≡ e.buffer₀
+  module _ (none : Ok tt ≡ refusal (score_in e)) (fits : a.draw < 2 ^ 64) where
+    pub overdrawn_call : leb (score_draws (score_in e)) left ≡ false → e.answer ≡ record { station = a; outcome = Err Draws } → e.out ≡ e.out₀ → e.buffer ≡ e.buffer₀
         → e.string ≡ e.string₀ → Scored a e
     overdrawn_call over = refused_by (refused_last (score_in e) a.draw none fits over)
 
     pub accepted_call : (g : Rng) (t : ℕ) → leb (score_draws (score_in e)) left ≡ true → t ≡ score_draws (score_in e) → g.0 ≡ state_after a.rng.0 (score_draws (score_in e))
-        → e.answer ≡ record { station = record { rng = g; draw = a.draw + t }; outcome = Played t } → e.out ≡ score_frames (score_in e) a.rng.0 0
+        → e.answer ≡ record { station = record { rng = g; draw = a.draw + t }; outcome = Ok t } → e.out ≡ score_frames (score_in e) a.rng.0 0
         → drop (length e.out₀) e.buffer ≡ drop (length e.out₀) e.buffer₀ → drop 9600 e.string ≡ drop 9600 e.string₀ → Scored a e
     accepted_call g t fit = accepted_by_lem (refused_not (score_in e) a.draw none fits fit) g t
 

@@ -3,7 +3,7 @@ ghost use Rattle.score_contract.specs.SessionCall.{SessionScored};
 
 use crate::station::render_station;
 use score::Seq;
-use session::{Answer, Named, Session};
+use session::{Answer, Session};
 
 // Fills `out` with a score, played on the station that the call names, and answers how many draws it made and the
 // session after them. `notes` has five words a note, and the curves of pitches are parts of `lane`. An accepted call
@@ -32,7 +32,7 @@ pub fn render_seq(
       string = string.new;
     }) }
 {
-    let Named::One(one) = session.named(station) else {
+    let Some(one) = session.named(station) else {
         return session.no_station();
     };
     let answer = render_station(one, seq, notes, lane, out, note_buf, string);

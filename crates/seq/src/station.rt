@@ -1,7 +1,7 @@
 // The score call on one station.
 ghost use Rattle.score_contract.specs.ScoreCall.{Scored};
 
-use outcome::{Outcome, Refusal, Verdict};
+use outcome::Refusal;
 use score::{Lent, Seq};
 use score_notes::play_counted;
 use session::{Station, StationAnswer};
@@ -35,17 +35,17 @@ pub(crate) fn render_station(
         room: note_buf.len(),
         string: string.len(),
     };
-    if let Verdict::Refuse(r) = score_verdict::score_verdict(seq, notes, lane, lent) {
+    if let Err(r) = score_verdict::score_verdict(seq, notes, lane, lent) {
         return StationAnswer {
             station,
-            outcome: Outcome::Refused(r),
+            outcome: Err(r),
         };
     }
     let draw = station.draw;
     if !score_draws::draws_fit(seq, notes, lane, lent, u64::MAX - draw) {
         return StationAnswer {
             station,
-            outcome: Outcome::Refused(Refusal::Draws),
+            outcome: Err(Refusal::Draws),
         };
     }
     let from = station.rng;
@@ -56,6 +56,6 @@ pub(crate) fn render_station(
     let after = Station { rng, draw: count };
     StationAnswer {
         station: after,
-        outcome: Outcome::Played(d),
+        outcome: Ok(d),
     }
 }

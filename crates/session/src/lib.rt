@@ -5,5 +5,5 @@
 mod session; // session.rt: the eight seeds and counts
 mod station; // station.rt: one station, as a call plays from it
 
-pub use session::{Answer, Named, Session};
+pub use session::{Answer, Session};
 pub use station::{Station, StationAnswer};

@@ -4,7 +4,7 @@ ghost use Rattle.session.specs.Opened.{session_at, station_in, counted};
 ghost use Rattle.session.specs.Named.{named_in, answered_in, no_station};
 
 use crate::station::{Station, StationAnswer};
-use outcome::{Outcome, Refusal};
+use outcome::Refusal;
 use rng::Rng;
 
 // The seeds and the draw counts of the stations 0 to 7: what a lab cites. A station's generator is its seed, set at
@@ -44,14 +44,15 @@ impl Session {
         self
     }
 
-    // The station that a call names.
-    pub fn named(self, station: u32) -> Named
+    // The station that a call names: none where the number is above 7.
+    #[tactic(auto, unfolding(crate::specs::Named::named_in))]
+    pub fn named(self, station: u32) -> Option<Station>
         ensures { result ≡ named_in self station }
     {
         if station > 7 {
-            return Named::NoStation;
+            return None;
         }
-        Named::One(self.station(station as usize))
+        Some(self.station(station as usize))
     }
 
     // What a call answers whose station answered `answer`.
@@ -76,16 +77,9 @@ impl Session {
         Answer {
             session: self,
             rng: Rng::new(0),
-            outcome: Outcome::Refused(Refusal::NoStation),
+            outcome: Err(Refusal::NoStation),
         }
     }
-}
-
-// A station of a session, or none where the number is above 7.
-#[derive(Clone, Copy)]
-pub enum Named {
-    One(Station),
-    NoStation,
 }
 
 // What a score call answers: the session after it, the generator of its station, as playing left it, and the draws
@@ -94,5 +88,5 @@ pub enum Named {
 pub struct Answer {
     pub session: Session,
     pub rng: Rng,
-    pub outcome: Outcome,
+    pub outcome: Result<u64, Refusal>,
 }

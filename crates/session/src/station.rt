@@ -2,7 +2,7 @@
 ghost use Rattle.std.specs.Prelude.{◌≡◌};
 ghost use Rattle.session.specs.Opened.{station_at};
 
-use outcome::Outcome;
+use outcome::Refusal;
 use rng::Rng;
 
 // A station's generator, and how many draws were made of it.
@@ -26,5 +26,5 @@ impl Station {
 #[derive(Clone, Copy)]
 pub struct StationAnswer {
     pub station: Station,
-    pub outcome: Outcome,
+    pub outcome: Result<u64, Refusal>,
 }

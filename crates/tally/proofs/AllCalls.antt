@@ -9,8 +9,8 @@ use lib.Ieee.{Float}
 use Rattle.rng.specs.SplitMix64.{state_after}
 use Rattle.rng.proofs.States.{state_add}
 use Rattle.outcome.specs.Answer.{Result, refused, accepted, unless, reported}
-use Rattle.outcome.specs.declared.answer.Verdict.{Verdict}
-use Rattle.outcome.specs.declared.answer.Verdict.TheVariants.{Fine, Refuse}
+use Rattle.outcome.specs.Outcome.{Verdict}
+use Rattle.std.specs.Prelude.{Ok, Err}
 use Rattle.outcome.proofs.First.{or_fine}
 use Rattle.score.specs.Score.{Score, note_in, note_count, draws_before, score_draws}
 use Rattle.score_contract.specs.Frames.{with_note, frames_after, score_frames}
@@ -35,25 +35,25 @@ frames_on sc seed d (suc k) =
     λ j. with_note sc (note_in sc k) (on j) (frames_on sc seed d k j)
 
 module _ (seed d : ℕ) (s : Score) where
-  pub not_refused : refusal_at s d ≡ Fine → refusal s ≡ Fine
+  pub not_refused : refusal_at s d ≡ Ok tt → refusal s ≡ Ok tt
   unfolding refusal_at
   not_refused e = (or_fine (refusal s) _ e).0
 
   -- a call that is not refused is taken as a whole
-  pub taken_whole : refusal_at s d ≡ Fine → all_taken seed s d ≡ record { x = d + score_draws s; frames = score_frames s seed d }
+  pub taken_whole : refusal_at s d ≡ Ok tt → all_taken seed s d ≡ record { x = d + score_draws s; frames = score_frames s seed d }
   unfolding score_frames
   taken_whole e =
       all_taken_lem seed s (alone s (not_refused e)) d (note_count s) (le_refl (note_count s))
       ∙ (λ j. record { x = d + sym (draws_all s) j; frames = frames_after s seed d (note_count s) })
 
 -- ---- one call
-unless_same : (v : Verdict) (r r' : Result) → (v ≡ Fine → r ≡ r') → unless v r ≡ unless v r'
-unless_same Fine r r' e = e refl
-unless_same (Refuse why) r r' e = refl
+unless_same : (v : Verdict) (r r' : Result) → (v ≡ Ok tt → r ≡ r') → unless v r ≡ unless v r'
+unless_same (Ok _) r r' e = e refl
+unless_same (Err why) r r' e = refl
 
-new_draw_lem : (v : Verdict) (D : ℕ) (frames : List Float) (d x : ℕ) → (v ≡ Fine → x ≡ d + D) → new_draw (unless v (accepted D frames)) d x ≡ d + reported (unless v (accepted D frames))
-new_draw_lem Fine D frames d x e = e refl
-new_draw_lem (Refuse why) D frames d x e = sym (add-zero d)
+new_draw_lem : (v : Verdict) (D : ℕ) (frames : List Float) (d x : ℕ) → (v ≡ Ok tt → x ≡ d + D) → new_draw (unless v (accepted D frames)) d x ≡ d + reported (unless v (accepted D frames))
+new_draw_lem (Ok _) D frames d x e = e refl
+new_draw_lem (Err why) D frames d x e = sym (add-zero d)
 
 -- what the contract says on the station at draw d is what the tally says
 pub one_call : (seed d : ℕ) (e : Event) → result_in (station_at seed d) e ≡ tallied seed d (score_in e)

@@ -20,7 +20,7 @@ use Rattle.dsl.proofs.Reach.{reaches_less, reached_within}
 use Rattle.draws.specs.Draws.{draws_of}
 use Rattle.voice.proofs.Own.{note_same}
 use Rattle.outcome.specs.Answer.{accepted}
-use Rattle.outcome.specs.declared.answer.Verdict.TheVariants.{Fine}
+use Rattle.std.specs.Prelude.{Ok}
 use Rattle.outcome.proofs.First.{all_false, inside_is}
 use Rattle.note_verdict.specs.NoteRefusals.{note_call_tests, note_call_refusal}
 use Rattle.note.specs.NoteCall.{note_result_of}
@@ -60,7 +60,7 @@ module _ (s : Score) (fit : Fit s) (m : SeqNote) (fine : NoteFine s m) (heard : 
   each : (i : ℕ) → i < frames → sized_of (pitch s m i) ≡ true
   each i h = pitch_sized_lem (reading m.pitch s.seq.hop) s.lane frames i fine.pitch fit.lane (sounded_reached s fit m fine) h
 
-  pub call_fine : note_call_refusal (alone_handed s m) ≡ Fine
+  pub call_fine : note_call_refusal (alone_handed s m) ≡ Ok tt
   unfolding note_call_refusal
   call_fine =
       let ps = listed_length (pitch s m) frames in
@@ -102,5 +102,5 @@ module _ (s : Score) (fit : Fit s) (m : SeqNote) (fine : NoteFine s m) (heard : 
       rw call_fine (λ j. accepted (drawn j) (same j))
 
 -- THE THEOREM: each sounded note of an accepted score has the draws and the samples that the note call gives it alone
-pub alone : (s : Score) → refusal s ≡ Fine → Alone s
+pub alone : (s : Score) → refusal s ≡ Ok tt → Alone s
 alone s ok k m g lt is heard = alone_note s (accepted_score s ok).fit m (fine_in s ok k lt m is) heard g

@@ -15,10 +15,9 @@ use Rattle.dsl.specs.declared.note.SeqNote.{SeqNote}
 use Rattle.dsl.specs.declared.note.Decoded.{Decoded}
 use Rattle.dsl.specs.declared.note.Decoded.TheVariants.{Note}
 use Rattle.outcome.specs.Answer.{number_of, refused, accepted, unless, seen, out_after, reported, frames_in}
-use Rattle.outcome.specs.declared.answer.Outcome.{Outcome}
-use Rattle.outcome.specs.declared.answer.Outcome.TheVariants.{Played, Refused}
-use Rattle.outcome.specs.declared.answer.Verdict.{Verdict}
-use Rattle.outcome.specs.declared.answer.Verdict.TheVariants.{Fine, Refuse}
+use Rattle.outcome.specs.Outcome.{Outcome}
+use Rattle.std.specs.Prelude.{Ok, Err}
+use Rattle.outcome.specs.Outcome.{Verdict}
 use Rattle.session.specs.Opened.{station_at}
 use Rattle.session.specs.declared.station.Station.{Station}
 use Rattle.note.specs.NoteCall.{NoteEvent, note_handed_in, note_result_of, note_result_in, rng_after, Voiced}
@@ -77,15 +76,15 @@ module _ (s c : ℕ) (es : List Event) (e : Event) (es' : List Event) (b : Stati
       f.scored.answer ∙ ap (λ (x : Station). result_in x e) at ∙ one_call s start e
 
   module _ (D : ℕ) (frames : List Float) (is : seen_in e ≡ accepted D frames) where
-    by_verdict : (v : Verdict) (T : ℕ) (fs : List Float) → accepted D frames ≡ unless v (accepted T fs) → (v ≡ Fine) × ((D ≡ T) × (frames ≡ fs))
-    by_verdict Fine T fs q = (refl, (cc, cc))
-    by_verdict (Refuse r) T fs q = (cc, (cc, cc))
+    by_verdict : (v : Verdict) (T : ℕ) (fs : List Float) → accepted D frames ≡ unless v (accepted T fs) → (v ≡ Ok tt) × ((D ≡ T) × (frames ≡ fs))
+    by_verdict (Ok _) T fs q = (refl, (cc, cc))
+    by_verdict (Err r) T fs q = (cc, (cc, cc))
 
-    whole : (refusal_at (score_in e) start ≡ Fine) × ((D ≡ score_draws (score_in e)) × (frames ≡ (all_taken s (score_in e) start).frames))
+    whole : (refusal_at (score_in e) start ≡ Ok tt) × ((D ≡ score_draws (score_in e)) × (frames ≡ (all_taken s (score_in e) start).frames))
     unfolding tallied
     whole = by_verdict (refusal_at (score_in e) start) (score_draws (score_in e)) _ (sym is ∙ in_list)
 
-    fine : refusal (score_in e) ≡ Fine
+    fine : refusal (score_in e) ≡ Ok tt
     fine = not_refused s start (score_in e) whole.0
 
     -- THE THEOREM: an accepted call reports the draws of its own sounded notes
@@ -93,8 +92,8 @@ module _ (s c : ℕ) (es : List Event) (e : Event) (es' : List Event) (b : Stati
     reports_own = whole.1.0
 
     out_is : (o : Outcome) (out : List Float) → seen o out ≡ accepted D frames → out ≡ frames
-    out_is (Played t) out q = cc
-    out_is (Refused r) out q = cc
+    out_is (Ok t) out q = cc
+    out_is (Err r) out q = cc
 
     -- THE THEOREM: frame i of its output
     pub frame_in_list : (i : ℕ) → i < (score_in e).n → get_or e.out i nan ≡ frame_after (score_in e) s start i (note_count (score_in e))
@@ -135,6 +134,6 @@ module _ (s c : ℕ) (es : List Event) (e : Event) (es' : List Event) (b : Stati
         record { answer = call.0; samples = played.samples ∙ gained; leaves = call.1.1 ∙ played.leaves }
 
   -- THE THEOREM: a refused call reports 0, and its number is the first refusal that applies
-  pub refused_in_list : (why : _) → refusal_at (score_in e) start ≡ Refuse why → seen_in e ≡ refused (number_of why)
+  pub refused_in_list : (why : _) → refusal_at (score_in e) start ≡ Err why → seen_in e ≡ refused (number_of why)
   unfolding tallied
   refused_in_list why r = in_list ∙ rw r

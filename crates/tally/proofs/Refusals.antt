@@ -17,8 +17,8 @@ use Rattle.voice.specs.Voice.{note_frames}
 use Rattle.outcome.specs.Answer.{number_of, Result, accepted, unless, seen}
 use Rattle.outcome.specs.First.{Test, first_of, or_else, first_refusal}
 use Rattle.outcome.specs.declared.answer.Refusal.{Refusal}
-use Rattle.outcome.specs.declared.answer.Verdict.{Verdict}
-use Rattle.outcome.specs.declared.answer.Verdict.TheVariants.{Fine, Refuse}
+use Rattle.outcome.specs.Outcome.{Verdict}
+use Rattle.std.specs.Prelude.{Ok, Err}
 use Rattle.note_verdict.specs.NoteRefusals.{NoteHanded, note_call_tests, note_call_refusal}
 use Rattle.note.specs.NoteCall.{NoteEvent, note_handed_in, note_result_of, Voiced}
 use Rattle.score.specs.Score.{Score, note_at, note_in, note_count, notes_in, score_draws}
@@ -36,18 +36,18 @@ use Rattle.tally.specs.Refusals.{Numbered, ◌⇒#◌, first_refused, note_refus
 abbrev numbered : Test → Numbered
 numbered t = record { holds = t.holds; number = number_of t.refusal }
 
-unless_cond : (b : Bool) (why : Refusal) (v : Verdict) (r : Result) → unless (cond b (Refuse why) v) r ≡ cond b (unless (Refuse why) r) (unless v r)
+unless_cond : (b : Bool) (why : Refusal) (v : Verdict) (r : Result) → unless (cond b (Err why) v) r ≡ cond b (unless (Err why) r) (unless v r)
 unless_cond true why v r = refl
 unless_cond false why v r = refl
 
 by_number : (ts : List Test) (r : Result) → unless (first_of ts) r ≡ first_refused (map numbered ts) r
 unfolding first_of first_refused
 by_number [] r = refl
-by_number (t ∷ ts) r = unless_cond t.holds t.refusal (first_of ts) r ∙ ap (cond t.holds (unless (Refuse t.refusal) r)) (by_number ts r)
+by_number (t ∷ ts) r = unless_cond t.holds t.refusal (first_of ts) r ∙ ap (cond t.holds (unless (Err t.refusal) r)) (by_number ts r)
 
 unless_or : (v next : Verdict) (r : Result) → unless (or_else v next) r ≡ unless v (unless next r)
-unless_or Fine next r = refl
-unless_or (Refuse why) next r = refl
+unless_or (Ok _) next r = refl
+unless_or (Err why) next r = refl
 
 cond_append : (t : Numbered) (ts us : List Numbered) (r : Result) → first_refused (ts ++ us) r ≡ first_refused ts (first_refused us r)
     → first_refused (t ∷ (ts ++ us)) r ≡ first_refused (t ∷ ts) (first_refused us r)

@@ -31,8 +31,8 @@ use Rattle.draws.specs.Draws.{draws_of}
 use Rattle.outcome.specs.Answer.{accepted, unless, reported}
 use Rattle.outcome.specs.First.{Test, ◌⇒◌, first_of, or_else, first_refusal, outside}
 use Rattle.outcome.specs.declared.answer.Refusal.TheVariants.{Kind, Steps, Size, Reach, Tone, Hop, Words, Lane, NoteBuffer, StringBuffer, Draws}
-use Rattle.outcome.specs.declared.answer.Verdict.{Verdict}
-use Rattle.outcome.specs.declared.answer.Verdict.TheVariants.{Fine, Refuse}
+use Rattle.outcome.specs.Outcome.{Verdict}
+use Rattle.std.specs.Prelude.{Ok, Err}
 use Rattle.outcome.proofs.First.{first_append}
 use Rattle.session.specs.Opened.{station_at}
 use Rattle.session.specs.declared.station.Station.{Station}
@@ -129,7 +129,7 @@ abbrev bare_untuned : Untuned → List Test
 bare_untuned u = (ltb 1048575 u.step ⇒ Steps) ∷ (ltb 1048575 u.len ⇒ Steps) ∷ (true ⇒ Tone) ∷ []
 
 bare_refusal : Score → Decoded → Verdict
-bare_refusal s = of_words (Refuse Kind) (λ u. first_of (bare_untuned u)) (λ m. first_of (bare_tests s m))
+bare_refusal s = of_words (Err Kind) (λ u. first_of (bare_untuned u)) (λ m. first_of (bare_tests s m))
 
 -- where the gain is sized it does not refuse
 gain_passes : (s : Score) (e : Decoded) → gain_sized e ≡ true → note_refusal s e ≡ bare_refusal s e
@@ -231,12 +231,12 @@ module _ (s s' : Score) (r : Reset s s') where
 
 -- ---- lists of calls
 silent_same : (v : Verdict) (D D' : ℕ) (fs fs' : List Float) → D ≡ D' → silent (unless v (accepted D fs)) ≡ silent (unless v (accepted D' fs'))
-silent_same Fine D D' fs fs' e = ap (λ (x : ℕ). accepted x []) e
-silent_same (Refuse why) D D' fs fs' e = refl
+silent_same (Ok _) D D' fs fs' e = ap (λ (x : ℕ). accepted x []) e
+silent_same (Err why) D D' fs fs' e = refl
 
 reports_same : (v : Verdict) (D D' : ℕ) (fs fs' : List Float) → D ≡ D' → reported (unless v (accepted D fs)) ≡ reported (unless v (accepted D' fs'))
-reports_same Fine D D' fs fs' e = e
-reports_same (Refuse why) D D' fs fs' e = refl
+reports_same (Ok _) D D' fs fs' e = e
+reports_same (Err why) D D' fs fs' e = refl
 
 -- where the next call begins
 next_draw : (seed d : ℕ) (s : Score) (v : Verdict) → refusal_at s d ≡ v → new_draw (tallied seed d s) d (all_taken seed s d).x ≡ d + reported (unless v (accepted (score_draws s) []))
@@ -251,8 +251,8 @@ record Both (seed d : ℕ) (ss ss' : List Score) : Type 0 where
 module _ (seed : ℕ) where
   unmoved_by : (d : ℕ) (s s' : Score) → Reset s s' → {ss ss' : List Score} (v : Verdict) → refusal_at s d ≡ v → Unmoved seed (d + reported (unless v (accepted (score_draws s) []))) ss ss'
       → Unmoved seed d (s ∷ ss) (s' ∷ ss')
-  unmoved_by d s s' r Fine e rest = both_accepted s s' e (sym (same_refusal s s' r d) ∙ e) (reset_alike s s' r).notes (noise s s' r seed d) rest
-  unmoved_by d s s' r {ss} {ss'} (Refuse why) e rest =
+  unmoved_by d s s' r (Ok _) e rest = both_accepted s s' e (sym (same_refusal s s' r d) ∙ e) (reset_alike s s' r).notes (noise s s' r seed d) rest
+  unmoved_by d s s' r {ss} {ss'} (Err why) e rest =
       let stays : Unmoved seed d ss ss' = rw (add-zero d) at rest in
       both_refused s s' why e (sym (same_refusal s s' r d) ∙ e) stays
 

@@ -15,7 +15,7 @@ use Rattle.dsl.specs.declared.note.SeqNote.{SeqNote}
 use Rattle.dsl.specs.declared.note.Decoded.TheVariants.{Note}
 use Rattle.outcome.specs.Answer.{number_of, refused, accepted, reported}
 use Rattle.outcome.specs.declared.answer.Refusal.{Refusal}
-use Rattle.outcome.specs.declared.answer.Verdict.TheVariants.{Refuse}
+use Rattle.std.specs.Prelude.{Err}
 use Rattle.score.specs.Score.{note_in, note_count, skips, score_draws}
 use Rattle.score.specs.Refusals.{refusal_at}
 use Rattle.note.specs.NoteCall.{NoteEvent, note_handed_in, Voiced}
@@ -118,7 +118,7 @@ module _ (a : Session) (eight : Eight a) (es : List SessionEvent) (e : SessionEv
   generator_in_station = (made es e es' runs).scored.generator ∙ ap (λ (x : Station). x.rng.0) leaves_station
 
   -- THE THEOREM: a refused call reports 0, and its number is the first refusal that applies
-  pub refused_in_station : (why : Refusal) → refusal_at (score_on e) start ≡ Refuse why → seen_on e ≡ refused (number_of why)
+  pub refused_in_station : (why : Refusal) → refusal_at (score_on e) start ≡ Err why → seen_on e ≡ refused (number_of why)
   refused_in_station = refused_in_list s c (own_calls k es) (on_station e) (own_calls k es') (station_in b k) run
 
   module _ (D : ℕ) (frames : List Float) (is : seen_on e ≡ accepted D frames) where

@@ -19,7 +19,7 @@ use Rattle.voice.proofs.Own.{note_length}
 use Rattle.mix.specs.Mix.{gained, mixed_at}
 use Rattle.mix.proofs.Mixing.{silence_length, silence_at, mixed_length, mixed_before, mixed_within, mixed_past}
 use Rattle.outcome.specs.Answer.{frames_in}
-use Rattle.outcome.specs.declared.answer.Verdict.TheVariants.{Fine}
+use Rattle.std.specs.Prelude.{Ok}
 use Rattle.score.specs.Score.{Score, rate_in, note_in, note_count, place, skips, draws_before}
 use Rattle.score.specs.Refusals.{refusal}
 use Rattle.score.proofs.Notes.{all_within}
@@ -99,6 +99,6 @@ module _ (s : Score) (seed d : ℕ) where
         with_frame k (omega arith) e refl g (frames_after s seed d k) (frames_length k) ∙ ap (gained_at s e g i) (frame_after_lem k (omega arith))
 
 -- THE THEOREM: frame i of an accepted score
-pub frame_is : (s : Score) → refusal s ≡ Fine → (seed d i : ℕ) → i < s.n → get_or (score_frames s seed d) i nan ≡ frame_after s seed d i (note_count s)
+pub frame_is : (s : Score) → refusal s ≡ Ok tt → (seed d i : ℕ) → i < s.n → get_or (score_frames s seed d) i nan ≡ frame_after s seed d i (note_count s)
 unfolding score_frames
 frame_is s ok seed d i h = frame_after_lem s seed d (alone s ok) i h (note_count s) (le_refl (note_count s))

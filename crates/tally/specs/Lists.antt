@@ -1,9 +1,8 @@
 -- What demand 3 says of one call and of one note of a list of score calls.
-use Rattle.std.specs.Prelude.{ℕ, suc, ◌+◌, ◌≡◌}
+use Rattle.std.specs.Prelude.{ℕ, suc, ◌+◌, ◌≡◌, Ok}
 use Rattle.rng.specs.SplitMix64.{state_after}
 use Rattle.dsl.specs.declared.note.SeqNote.{SeqNote}
 use Rattle.outcome.specs.Answer.{accepted, reported, frames_in, seen}
-use Rattle.outcome.specs.declared.answer.Verdict.TheVariants.{Fine}
 use Rattle.note_verdict.specs.NoteRefusals.{note_call_refusal}
 use Rattle.note.specs.NoteCall.{NoteEvent}
 use Rattle.score.specs.Score.{Score, draws_in, draws_before}
@@ -32,7 +31,7 @@ module _ (seed d : ℕ) (s : Score) (k : ℕ) (m : SeqNote) where
 
   pub record PlayedAlone : Type 0 where
     -- the note call that plays it alone is accepted, and draws what demand 3 says
-    pub accepted : note_call_refusal (alone_handed s m) ≡ Fine
+    pub accepted : note_call_refusal (alone_handed s m) ≡ Ok tt
     pub draws : reported (alone_of s m state_of) ≡ draws_in s m
     -- it begins at its own draw, and the samples of that note call are what the frames gain
     pub begins : (taken_after seed s d k).x ≡ draw_of s d k

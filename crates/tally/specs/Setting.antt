@@ -1,5 +1,5 @@
 -- That no knob moves the noise: what the draws of a score depend on, and lists of calls that differ in knobs, drawbars, duty, gains and envelopes alone.
-use Rattle.std.specs.Prelude.{ℕ, ◌+◌, ◌*◌, ◌<◌, ◌≡◌, List, [], ◌∷◌, map, Bool, true, length, get_or, Float}
+use Rattle.std.specs.Prelude.{ℕ, ◌+◌, ◌*◌, ◌<◌, ◌≡◌, List, [], ◌∷◌, map, Bool, true, length, get_or, Float, Ok, Err}
 use Rattle.std.specs.Float.{nan}
 use Rattle.rng.specs.SplitMix64.{state_after}
 use Rattle.dsl.specs.Sized.{sized_of}
@@ -8,7 +8,6 @@ use Rattle.dsl.specs.declared.note.Decoded.{Decoded}
 use Rattle.outcome.specs.Answer.{Result, refused, accepted}
 use Rattle.outcome.specs.First.{first_of}
 use Rattle.outcome.specs.declared.answer.Refusal.{Refusal}
-use Rattle.outcome.specs.declared.answer.Verdict.TheVariants.{Fine, Refuse}
 use Rattle.score.specs.Score.{Score, rate_in, wave_in, kit_in, note_in, note_count, place, pitch, note_draws, score_draws}
 use Rattle.score.specs.Refusals.{voice_tests, refusal_at}
 use Rattle.score_contract.specs.ScoreCall.{Event, score_in}
@@ -39,7 +38,7 @@ pub record Alike (s s' : Score) : Type 0 where
 
 -- knobs, drawbars, duty, envelope and gains of a score are sized
 pub record Sized (s : Score) : Type 0 where
-  pub voice : first_of (voice_tests s.seq) ≡ Fine
+  pub voice : first_of (voice_tests s.seq) ≡ Ok tt
   pub gains : (k : ℕ) → k < note_count s → gain_sized (note_in s k) ≡ true
 
 -- Two scores that differ in nothing but knobs, drawbars, duty, envelope and the notes' gains, all sized in both: of a note's five words the fifth is the gain.
@@ -72,9 +71,9 @@ pub record SameNoise (seed d : ℕ) (s s' : Score) (k : ℕ) : Type 0 where
 -- Two lists of calls from draw d on: each call is refused with the same refusal, or accepted in both, with the same noise in each note.
 pub data Unmoved (seed : ℕ) : ℕ → List Score → List Score → Type 0 where
   no_more : {d : ℕ} → Unmoved seed d [] []
-  both_refused : {d : ℕ} {ss ss' : List Score} (s s' : Score) (why : Refusal) → refusal_at s d ≡ Refuse why → refusal_at s' d ≡ Refuse why → Unmoved seed d ss ss'
+  both_refused : {d : ℕ} {ss ss' : List Score} (s s' : Score) (why : Refusal) → refusal_at s d ≡ Err why → refusal_at s' d ≡ Err why → Unmoved seed d ss ss'
       → Unmoved seed d (s ∷ ss) (s' ∷ ss')
-  both_accepted : {d : ℕ} {ss ss' : List Score} (s s' : Score) → refusal_at s d ≡ Fine → refusal_at s' d ≡ Fine → note_count s ≡ note_count s'
+  both_accepted : {d : ℕ} {ss ss' : List Score} (s s' : Score) → refusal_at s d ≡ Ok tt → refusal_at s' d ≡ Ok tt → note_count s ≡ note_count s'
       → ((k : ℕ) → k < note_count s → SameNoise seed d s s' k) → Unmoved seed (d + score_draws s) ss ss' → Unmoved seed d (s ∷ ss) (s' ∷ ss')
 
 -- a result without its frames: the refusal's number, or the draws

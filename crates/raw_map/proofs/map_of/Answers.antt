@@ -4,20 +4,11 @@ use mathlib.Core.Path.{◌≡◌}
 use native.Mathlib.Omega.{arith}
 use lib.ListN.{length}
 use Rattle.raw_map.specs.Words.{map_of}
-use borrow.Author.Rules.{rules}
 use Rattle.raw_map.proofs.map_of.Goals as goal
-
-pub returns-then-n-gt64 : goal.returns-then-n-gt64
-unfolding map_of
-returns-then-n-gt64 c =
-    let w = c.args.words.now in
-    let k : min (length w / 4) 65 ≡ 65 = omega arith in
-    rw (k, c.points_in.ensures)
 
 pub returns : goal.returns
 unfolding map_of
 returns c =
     let w = c.args.words.now in
-    let k : min (length w / 4) 65 ≡ length w / 4 = omega arith in
-    let m : min (length w / 4) 64 ≡ length w / 4 = omega arith in
-    rw (k, m, c.points_in-2.ensures)
+    let k : min (min (length w / 4) 65) 64 ≡ min (length w / 4) 64 = omega arith in
+    rw (c.points_in.ensures, c.min.ensures, c.min-2.ensures, k)

@@ -20,8 +20,8 @@ offset_bounds-points-i c = record { fits = omega (arith, c.requires.n_bound) }
 pub bounds-points-i : goal.bounds-points-i
 bounds-points-i c = omega (arith, c.requires.n_bound)
 
-pub overflow_add-i : goal.overflow_add-i
-overflow_add-i c = record { fits = omega (arith, c.requires.n_bound) }
+pub overflow_step-i : goal.overflow_step-i
+overflow_step-i c = record { fits = omega (arith, c.requires.n_bound) }
 
 pub loop-i-preserved : goal.loop-i-preserved
 loop-i-preserved c =

@@ -10,6 +10,3 @@ use Rattle.raw_map.proofs.points_in.Given as goal
 
 abbrev pub invariant-loop-i : goal.invariant-loop-i
 invariant-loop-i l = (l.i ≤ l.n) × (l.points ≡ read (point_in l.words) no_map.points l.i)
-
-abbrev pub decreases-loop-i : goal.decreases-loop-i
-decreases-loop-i l = l.n - l.i

@@ -1,14 +1,11 @@
 -- `raw_map::signed` meets its contract. Assumes nothing.
-use native.Mathlib.Omega.{arith}
-use Rattle.raw_map.proofs.Reading.{sign_none, sign_fits, sign_some}
-use borrow.Author.Rules.{rules}
+use Rattle.std.proofs.Common.{◌+◌, ◌*◌, ◌<◌, arith}
+use mir.Syntax.{w64}
+use Rattle.std.proofs.lemmas.Int.{of_z-to_z}
+use Rattle.raw_map.proofs.Reading.{sign_is}
 use Rattle.raw_map.proofs.signed.Goals as goal
 
-pub returns-then-high-lt2147483648 : goal.returns-then-high-lt2147483648
-returns-then-high-lt2147483648 c = sign_none c.args.low c.args.high (omega arith) (omega arith)
-
-pub overflow_sub-result-2 : goal.overflow_sub-result-2
-overflow_sub-result-2 c = sign_fits c.args.low c.args.high (omega arith) (omega arith) (omega arith)
-
 pub returns : goal.returns
-returns c = sign_some c.args.low c.args.high (omega arith) (omega arith) (omega arith)
+returns c =
+    let bound : c.args.high * 4294967296 + c.args.low < 18446744073709551616 = omega arith in
+    rw (c.cast_signed.ensures, of_z-to_z w64 (c.args.high * 4294967296 + c.args.low) bound) (sign_is c.args.low c.args.high (omega arith) (omega arith))

@@ -10,6 +10,3 @@ use Rattle.score_draws.proofs.score_draws.Given as goal
 
 abbrev pub invariant-loop-k : goal.invariant-loop-k
 invariant-loop-k l = (Added (score_of l.seq l.notes l.lane l.lent) l.left l.k l.total) × (l.count ≡ length l.notes / 5)
-
-abbrev pub decreases-loop-k : goal.decreases-loop-k
-decreases-loop-k l = l.count - l.k

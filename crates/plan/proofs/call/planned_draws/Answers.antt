@@ -10,4 +10,4 @@ returns-in_default c = record { session = refl; outcome = no_station_lem _ _ _ (
 pub returns : goal.returns
 returns c =
     let named = c.named.ensures in
-    record { session = refl; outcome = on_station_lem _ _ _ (sym named ∙ c.in-One.is) c.total_draws-outcome.ensures }
+    record { session = refl; outcome = on_station_lem _ _ _ (sym named ∙ c.in-Some.is) c.total_draws-outcome.ensures }

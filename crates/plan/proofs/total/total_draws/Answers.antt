@@ -2,24 +2,20 @@
 use Prim.Native.Nat.{◌^◌, ◌<◌}
 use mathlib.Core.Path.{sym, ◌∙◌}
 use native.Mathlib.Omega.{arith}
-use Rattle.plan.proofs.Ways.{refused_plan, overdrawn_plan, accepted_plan}
-use borrow.Author.Rules.{rules}
+use Rattle.outcome.proofs.First.{left_with}
+use Rattle.plan.proofs.Ways.{refused_plan, summed_plan}
 use Rattle.plan.proofs.total.total_draws.Goals as goal
 
-pub returns-in-Refuse : goal.returns-in-Refuse
-returns-in-Refuse c = refused_plan _ _ _ _ _ (sym c.in-Refuse.is ∙ c.score_verdict.ensures)
+pub returns-in_err-score_verdict : goal.returns-in_err-score_verdict
+returns-in_err-score_verdict c =
+    let a = c.args in
+    left_with _ c.from_residual.ensures.1 ∙ refused_plan a.seq a.notes.now a.lane.now a.n a.draw c.in_err-score_verdict.ensures
 
-pub score_draws-sum-requires : goal.score_draws-sum-requires
-score_draws-sum-requires c = sym (sym c.in_default.is ∙ c.score_verdict.ensures)
-
-pub returns-in_default-sum : goal.returns-in_default-sum
-returns-in_default-sum c =
-    let draw_below : c.args.draw < 2 ^ 64 = omega arith in
-    let none = sym c.in_default.is ∙ c.score_verdict.ensures in
-    overdrawn_plan _ _ _ _ _ none draw_below (sym c.in_default-sum.is ∙ c.score_draws-sum.ensures)
+pub score_draws-requires : goal.score_draws-requires
+score_draws-requires c = sym c.in_ok-score_verdict.ensures
 
 pub returns : goal.returns
 returns c =
-    let draw_below : c.args.draw < 2 ^ 64 = omega arith in
-    let none = sym c.in_default.is ∙ c.score_verdict.ensures in
-    accepted_plan _ _ _ _ _ none draw_below _ (sym c.in-Total.is ∙ c.score_draws-sum.ensures)
+    let a = c.args in
+    let draw_below : a.draw < 2 ^ 64 = omega arith in
+    c.ok_or.ensures.value ∙ summed_plan a.seq a.notes.now a.lane.now a.n a.draw c.in_ok-score_verdict.ensures draw_below c.score_draws.result c.score_draws.ensures

@@ -11,6 +11,3 @@ use Rattle.score_verdict.proofs.notes.notes_verdict.Given as goal
 
 abbrev pub invariant-loop-k : goal.invariant-loop-k
 invariant-loop-k l = (Probed (verdict_in (score_of l.seq l.notes l.lane l.lent)) (length l.notes / 5) l.k) × (l.count ≡ length l.notes / 5)
-
-abbrev pub decreases-loop-k : goal.decreases-loop-k
-decreases-loop-k l = l.count - l.k

@@ -17,7 +17,7 @@ returns-in_default c =
 
 pub answered-requires : goal.answered-requires
 answered-requires c =
-    (named_one _ _ (sym c.named.ensures ∙ c.in-One.is)).0
+    (named_one _ _ (sym c.named.ensures ∙ c.in-Some.is)).0
 
 pub returns : goal.returns
 returns c =
@@ -25,4 +25,4 @@ returns c =
     let seeds : length c.args.session.seeds ≡ 8 = c.well_formed.0.1.1.0.1.0.1 in
     let counts : length c.args.session.draws ≡ 8 = c.well_formed.0.1.1.1.0.1.0.1 in
     record { seeds = seeds; counts = counts } in
-    put_back _ eight _ (sym c.named.ensures ∙ c.in-One.is) _ c.render_station-answer.ensures c.answered.ensures
+    put_back _ eight _ (sym c.named.ensures ∙ c.in-Some.is) _ c.render_station-answer.ensures c.answered.ensures

@@ -11,8 +11,8 @@ use Rattle.seq.proofs.Calls.{refused_call, overdrawn_call, accepted_call, draws_
 use borrow.Author.Rules.{rules}
 use Rattle.seq.proofs.station.render_station.Goals as goal
 
-pub returns-in-Refuse : goal.returns-in-Refuse
-returns-in-Refuse c = refused_call _ _ (sym c.in-Refuse.is ∙ c.score_verdict.ensures) refl refl refl refl
+pub returns-in-Err : goal.returns-in-Err
+returns-in-Err c = refused_call _ _ (sym c.in-Err.is ∙ c.score_verdict.ensures) refl refl refl refl
 
 pub overflow_sub-draw : goal.overflow_sub-draw
 overflow_sub-draw c =

@@ -1,4 +1,4 @@
--- `mix::stages::mix_sustain` meets its contract: the loop's invariant is `Stretched`. Assumes nothing.
+-- `mix::stages::mix_stage` meets its contract: the loop's invariant is `Stretched`. Assumes nothing.
 use Rattle.std.proofs.Common.{◌-◌, ◌≤◌, arith, rules}
 use lib.Ieee.{nan}
 use Rattle.ieee.specs.Numbers.{f32}
@@ -7,7 +7,7 @@ use Rattle.envelope.specs.Envelope.{adsr_env}
 use Rattle.mix.specs.Mix.{gained_by}
 use Rattle.mix.specs.Stretch.{Stretched}
 use Rattle.mix.proofs.Stretching.{stretched_none, stretched_more, stretched_all}
-use Rattle.mix.proofs.stages.mix_sustain.Goals as goal
+use Rattle.mix.proofs.stages.mix_stage.Goals as goal
 
 pub loop-i-init : goal.loop-i-init
 loop-i-init c = (omega arith, c.requires.from_le_to, stretched_none)
