@@ -4,14 +4,14 @@ use Rattle.dsl.specs.declared.wave.SeqWave.TheVariants.{Noise, Triangle, Sawtoot
 use Rattle.text_listing.specs.Digits.{digit_for, decimal_up_to, decimal_text}
 use Rattle.cue_line.specs.Names.{bytes}
 use Rattle.cue_line.specs.Line.{line_text}
-use Rattle.cue_line.specs.declared.cell.Cell.TheVariants.{Number, Dash}
+use Rattle.std.specs.Prelude.{None, Some}
 
 pub shows :
-    (line_text (record { place = 0; step = 0; start = Number 0; sounded = 4; wave = Sawtooth; first = Number 0; draws = 0 })
+    (line_text (record { place = 0; step = 0; start = Some 0; sounded = 4; wave = Sawtooth; first = Some 0; draws = 0 })
     ≡ bytes "   0       0        0        4sawtooth                      0          0\n")
-    × (line_text (record { place = 12; step = 96; start = Dash; sounded = 0; wave = Triangle; first = Dash; draws = 0 })
+    × (line_text (record { place = 12; step = 96; start = None; sounded = 0; wave = Triangle; first = None; draws = 0 })
     ≡ bytes "  12      96        -        0triangle                      -          0\n")
-    × (line_text (record { place = 255; step = 4095; start = Number 2047; sounded = 2048; wave = Noise; first = Number 9600; draws = 2048 })
+    × (line_text (record { place = 255; step = 4095; start = Some 2047; sounded = 2048; wave = Noise; first = Some 9600; draws = 2048 })
     ≡ bytes " 255    4095     2047     2048noise                      9600       2048\n")
 unfolding line_text decimal_text decimal_up_to digit_for
 shows = (refl, refl, refl)

@@ -1,8 +1,6 @@
 -- Columns of a printed line: a text and spaces (bytes 32).
-use Rattle.std.specs.Prelude.{ℕ, ◌-◌, List, [], ◌∷◌, ◌++◌, length, replicate}
+use Rattle.std.specs.Prelude.{ℕ, ◌-◌, List, [], ◌∷◌, ◌++◌, length, replicate, None, Option, Some}
 use Rattle.text_listing.specs.Digits.{decimal_text}
-use Rattle.cue_line.specs.declared.cell.Cell.{Cell}
-use Rattle.cue_line.specs.declared.cell.Cell.TheVariants.{Number, Dash}
 
 abbrev pub spaces : ℕ → List ℕ
 spaces n = replicate n 32
@@ -16,6 +14,6 @@ abbrev pub left : ℕ → List ℕ → List ℕ
 left width text = text ++ spaces (width - length text)
 
 -- a number in decimal, or "a dash"
-abbrev pub cell_text : Cell → List ℕ
-cell_text (Number v) = decimal_text v
-cell_text Dash = 45 ∷ []
+abbrev pub cell_text : Option ℕ → List ℕ
+cell_text (Some v) = decimal_text v
+cell_text None = 45 ∷ []

@@ -7,5 +7,4 @@ mod line; // line.rt: the line of a note
 mod name; // name.rt: the names of the waves
 mod put; // put.rt: bytes one after the other
 
-pub use cell::Cell;
 pub use line::{Cue, put_line};

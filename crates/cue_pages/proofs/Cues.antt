@@ -10,7 +10,7 @@ use Rattle.dsl.specs.declared.note.Decoded.TheVariants.{Note}
 use Rattle.dsl.proofs.Cases.{NoNote}
 use Rattle.score.specs.Score.{Score, wave_in, place, skips, note_draws}
 use Rattle.cue_line.specs.declared.line.Cue.{Cue}
-use Rattle.cue_line.specs.declared.cell.Cell.TheVariants.{Number}
+use Rattle.std.specs.Prelude.{Some}
 use Rattle.cue_pages.specs.Sheet.{skipped_cue, note_cue, cue_of}
 
 module _ (s : Score) (k first : ℕ) where
@@ -28,10 +28,10 @@ module _ (s : Score) (k first : ℕ) where
     sounding draws = record {
       place = k;
       step = m.step;
-      start = Number (place s m).start;
+      start = Some (place s m).start;
       sounded = (place s m).sounded;
       wave = wave_in s;
-      first = Number first;
+      first = Some first;
       draws = draws;
     }
 

@@ -12,7 +12,7 @@ use Rattle.dsl.specs.declared.note.Decoded.{Decoded}
 use Rattle.dsl.specs.declared.wave.SeqWave.{SeqWave}
 use Rattle.dsl.proofs.Cases.{by_kind}
 use Rattle.draws.proofs.Few.{draws_most}
-use Rattle.outcome.specs.declared.answer.Verdict.TheVariants.{Fine}
+use Rattle.std.specs.Prelude.{Ok}
 use Rattle.score.specs.Score.{Score, rate_in, wave_in, kit_in, note_in, note_count, place, skips, pitch, draws_in, note_draws, draws_before}
 use Rattle.score.specs.Refusals.{note_refusal, refusal, refusal_at}
 use Rattle.score.proofs.Accepted.{NoteFine, note_fine, accepted_score}
@@ -31,7 +31,7 @@ skipped_fits : (wave : SeqWave) (k step : ℕ) → k < 10 ^ 4 → step < 10 ^ 8 
 skipped_fits wave k step few small =
     record { place = few; step = small; start = omega arith; sounded = omega arith; first = omega arith; draws = omega arith }
 
-module _ (s : Score) (ok : refusal s ≡ Fine) (k first : ℕ) (few : k < 10 ^ 4) (reached : first < 2 ^ 64) where
+module _ (s : Score) (ok : refusal s ≡ Ok tt) (k first : ℕ) (few : k < 10 ^ 4) (reached : first < 2 ^ 64) where
   drawn_most : (m : SeqNote) → skips s m ≡ false → draws_in s m ≤ max s.n 9600
   unfolding note_draws
   drawn_most m heard =
@@ -61,9 +61,9 @@ module _ (s : Score) (ok : refusal s ≡ Fine) (k first : ℕ) (few : k < 10 ^ 4
       by true e = skipped_fits (wave_in s) k m.step few (omega (arith, fine.step))
       by false e = sounded_fits m fine e
 
-  cue_fits : (e : Decoded) → note_refusal s e ≡ Fine → Fitting (cue_of s k first e)
+  cue_fits : (e : Decoded) → note_refusal s e ≡ Ok tt → Fitting (cue_of s k first e)
   unfolding cue_of
-  cue_fits = by_kind (λ e. note_refusal s e ≡ Fine → Fitting (cue_of s k first e)) (λ m e. note_fits m (note_fine s m e))
+  cue_fits = by_kind (λ e. note_refusal s e ≡ Ok tt → Fitting (cue_of s k first e)) (λ m e. note_fits m (note_fine s m e))
       (λ e none fine. rw (none.other (skipped_cue (wave_in s) k 0) (note_cue s k first)) (skipped_fits (wave_in s) k 0 few (omega arith)))
 
 -- ---- the form feeds
@@ -81,7 +81,7 @@ feed_length count lines some = by (eqb (lines % 60) 0) (ltb lines count) refl
     by false false e = omega arith
 
 -- ---- all lines
-module _ (s : Score) (d : ℕ) (fine : refusal_at s d ≡ Fine) (few : note_count s ≤ 10000) where
+module _ (s : Score) (d : ℕ) (fine : refusal_at s d ≡ Ok tt) (few : note_count s ≤ 10000) where
   line_long : (k : ℕ) → k < note_count s → length (note_line s d k) ≡ 73
   line_long k lt =
       let ok = call_fine s d fine in

@@ -6,7 +6,7 @@ use native.Mathlib.Omega.{arith}
 use native.Mathlib.Numerals.{add-one}
 use borrow.Author.Tests.{ltb-false}
 use lib.ListN.{length, length-append}
-use Rattle.outcome.specs.declared.answer.Verdict.TheVariants.{Fine}
+use Rattle.std.specs.Prelude.{Ok}
 use Rattle.outcome.proofs.First.{none_holds, or_fine}
 use Rattle.score.specs.Score.{Score, note_in, note_count, note_draws, draws_before, score_draws}
 use Rattle.score.specs.Refusals.{refusal, refusal_at}
@@ -19,8 +19,8 @@ use Rattle.cue_line.specs.declared.line.Cue.{Cue}
 use Rattle.cue_pages.specs.Sheet.{cue_of, page_end, note_line, lines_of, sheet_of}
 
 -- ---- a score that is accepted at the draw d
-module _ (s : Score) (d : ℕ) (fine : refusal_at s d ≡ Fine) where
-  pub call_fine : refusal s ≡ Fine
+module _ (s : Score) (d : ℕ) (fine : refusal_at s d ≡ Ok tt) where
+  pub call_fine : refusal s ≡ Ok tt
   unfolding refusal_at
   call_fine = (or_fine (refusal s) _ fine).0
 
@@ -55,14 +55,14 @@ module _ (s : Score) (d : ℕ) where
 -- Before note k.
 pub record Sheeting (s : Score) (d : ℕ) (page₀ : List ℕ) (k at first : ℕ) (page : List ℕ) : Type 0 where
   pub within : k ≤ note_count s
-  pub fine : refusal_at s d ≡ Fine
+  pub fine : refusal_at s d ≡ Ok tt
   pub room : Room (sheet_of s d) 0 page₀
   pub same : length page ≡ length page₀
   pub reached : first ≡ d + draws_before s k
   pub is : Printed (lines_of s d k) 0 page₀ at page
 
 module _ {s : Score} {d : ℕ} {page₀ : List ℕ} where
-  pub sheeting_none : refusal_at s d ≡ Fine → Room (sheet_of s d) 0 page₀ → Sheeting s d page₀ 0 0 d page₀
+  pub sheeting_none : refusal_at s d ≡ Ok tt → Room (sheet_of s d) 0 page₀ → Sheeting s d page₀ 0 0 d page₀
   unfolding draws_before lines_of
   sheeting_none f r = record { within = omega arith; fine = f; room = r; same = refl; reached = omega arith; is = printed_none 0 page₀ }
 

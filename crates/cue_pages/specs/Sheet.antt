@@ -1,5 +1,5 @@
 -- The cue sheet of a score (02, Card 7): what each note's line shows, and the pages.
-use Rattle.std.specs.Prelude.{ℕ, zero, suc, ◌+◌, ◌-◌, ◌*◌, ◌/◌, ◌%◌, List, [], ◌∷◌, ◌++◌, cond, ltb, eqb}
+use Rattle.std.specs.Prelude.{ℕ, zero, suc, ◌+◌, ◌-◌, ◌*◌, ◌/◌, ◌%◌, List, [], ◌∷◌, ◌++◌, cond, ltb, eqb, None, Some}
 use Rattle.dsl.specs.Note.{of_note}
 use Rattle.dsl.specs.declared.wave.SeqWave.{SeqWave}
 use Rattle.dsl.specs.declared.note.SeqNote.{SeqNote}
@@ -7,11 +7,10 @@ use Rattle.dsl.specs.declared.note.Decoded.{Decoded}
 use Rattle.score.specs.Score.{Score, wave_in, note_in, note_count, place, skips, draws_in, draws_before}
 use Rattle.cue_line.specs.Line.{line_text}
 use Rattle.cue_line.specs.declared.line.Cue.{Cue}
-use Rattle.cue_line.specs.declared.cell.Cell.TheVariants.{Number, Dash}
 
 -- "A skipped note shows a dash for start frame and for first draw, and 0 frames and draws."
 abbrev pub skipped_cue : SeqWave → ℕ → ℕ → Cue
-skipped_cue wave k step = record { place = k; step = step; start = Dash; sounded = 0; wave = wave; first = Dash; draws = 0 }
+skipped_cue wave k step = record { place = k; step = step; start = None; sounded = 0; wave = wave; first = None; draws = 0 }
 
 module _ (s : Score) where
   -- a sounded note; `first` is "first draw, the count reached before the note"
@@ -19,10 +18,10 @@ module _ (s : Score) where
   sounded_cue k first m = record {
     place = k;
     step = m.step;
-    start = Number (place s m).start;
+    start = Some (place s m).start;
     sounded = (place s m).sounded;
     wave = wave_in s;
-    first = Number first;
+    first = Some first;
     draws = draws_in s m;
   }
 

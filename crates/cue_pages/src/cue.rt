@@ -1,11 +1,10 @@
 // What a note's line shows.
-ghost use Rattle.std.specs.Prelude.{◌≡◌, ◌/◌, ◌<◌, length};
-ghost use Rattle.outcome.specs.declared.answer.Verdict.TheVariants.{Fine};
+ghost use Rattle.std.specs.Prelude.{◌≡◌, ◌/◌, ◌<◌, length, Ok};
 ghost use Rattle.score.specs.Score.{score_of, note_in, note_draws};
 ghost use Rattle.score.specs.Refusals.{refusal};
 ghost use Rattle.cue_pages.specs.Sheet.{skipped_cue, cue_of};
 
-use cue_line::{Cell, Cue};
+use cue_line::Cue;
 use dsl::{Decoded, SeqWave};
 use score::{Lent, Seq};
 
@@ -15,10 +14,10 @@ fn skipped_cue(k: usize, step: u32, wave: SeqWave) -> Cue
     Cue {
         place: k as u64,
         step,
-        start: Cell::Dash,
+        start: None,
         sounded: 0,
         wave,
-        first: Cell::Dash,
+        first: None,
         draws: 0,
     }
 }
@@ -33,7 +32,7 @@ pub(crate) fn cue_at(
     first: u64,
     draws: u64,
 ) -> Cue
-    requires lent_value { refusal (score_of seq notes.now lane.now lent) ≡ Fine }
+    requires lent_value { refusal (score_of seq notes.now lane.now lent) ≡ Ok tt }
     requires k_in_bounds { k < length notes.now / 5 }
     requires draws_value { draws ≡ note_draws (score_of seq notes.now lane.now lent) (note_in (score_of seq notes.now lane.now lent) k) }
     ensures { result ≡ cue_of (score_of seq notes.now lane.now lent) k first (note_in (score_of seq notes.now lane.now lent) k) }
@@ -51,10 +50,10 @@ pub(crate) fn cue_at(
     Cue {
         place: k as u64,
         step: note.step,
-        start: Cell::Number(place.start as u64),
+        start: Some(place.start as u64),
         sounded: place.sounded as u64,
         wave,
-        first: Cell::Number(first),
+        first: Some(first),
         draws,
     }
 }

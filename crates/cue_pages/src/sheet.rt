@@ -1,6 +1,5 @@
 // The whole sheet.
-ghost use Rattle.std.specs.Prelude.{◌≡◌};
-ghost use Rattle.outcome.specs.declared.answer.Verdict.TheVariants.{Fine};
+ghost use Rattle.std.specs.Prelude.{◌≡◌, Ok};
 ghost use Rattle.score.specs.Score.{score_of};
 ghost use Rattle.score.specs.Refusals.{refusal_at};
 ghost use Rattle.text_listing.specs.Printed.{Room, Printed};
@@ -21,21 +20,19 @@ pub fn put_sheet(
     lent: Lent,
     draw: u64,
 ) -> usize
-    requires draw_value { refusal_at (score_of seq notes.now lane.now lent) draw ≡ Fine }
+    requires draw_value { refusal_at (score_of seq notes.now lane.now lent) draw ≡ Ok tt }
     requires room { Room (sheet_of (score_of seq notes.now lane.now lent) draw) 0 page.old }
     ensures { Printed (sheet_of (score_of seq notes.now lane.now lent) draw) 0 page.old result page.new }
 {
     let count = notes.len() / 5;
     let mut at: usize = 0;
     let mut first = draw;
-    let mut k: usize = 0;
-    while k < count {
+    for k in 0..count {
         let draws = note_draws(seq, notes, lane, lent, k) as u64;
         let after = first + draws;
         let cue = cue_at(seq, notes, lane, lent, k, first, draws);
         at = put_note(page, at, cue, count, k + 1);
         first = after;
-        k += 1;
     }
     at
 }

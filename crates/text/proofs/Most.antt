@@ -15,8 +15,8 @@ use Rattle.dsl.proofs.Cases.{by_words}
 use Rattle.outcome.specs.Answer.{Result, accepted, unless, number_of}
 use Rattle.outcome.specs.declared.answer.Refusal.{Refusal}
 use Rattle.outcome.specs.declared.answer.Refusal.TheVariants.{Draws}
-use Rattle.outcome.specs.declared.answer.Verdict.{Verdict}
-use Rattle.outcome.specs.declared.answer.Verdict.TheVariants.{Fine, Refuse}
+use Rattle.outcome.specs.Outcome.{Verdict}
+use Rattle.std.specs.Prelude.{Ok, Err, None, Option, Some}
 use Rattle.outcome.specs.First.{Test, ◌⇒◌, first_of, or_else, first_refusal}
 use Rattle.outcome.proofs.First.{none_holds, or_fine}
 use Rattle.score.specs.Score.{Score, note_count, notes_in, score_draws}
@@ -30,8 +30,6 @@ use Rattle.text_listing.proofs.Listings.{refusal_length, listing_length}
 use Rattle.text_read.specs.Text.{seq_in, text_of}
 use Rattle.text.specs.Reply.{too_short, reply_of, bytes_after, Replied}
 use Rattle.text_reply.specs.Shown.{shown_at}
-use Rattle.text_reply.specs.declared.reply.Reply.{Reply}
-use Rattle.text_reply.specs.declared.reply.Reply.TheVariants.{Listing, Short}
 use Rattle.text_judge.specs.Call.{call_of}
 use Rattle.text_judge.specs.Refusal.{text_refusal, unless_refused}
 use Rattle.text_judge.proofs.Refused.{unrefused_read}
@@ -39,26 +37,26 @@ use Rattle.text.specs.Listing.{played, played_read, listing}
 
 -- ---- no refusal of a score has a number of three digits
 abbrev Small : Verdict → Type 0
-Small v = (r : Refusal) → v ≡ Refuse r → number_of r ≤ 99
+Small v = (r : Refusal) → v ≡ Err r → number_of r ≤ 99
 
 -- of a list of tests: computes to true at a written one
 abbrev small : List Test → Bool
 small [] = true
 small (t ∷ ts) = cond (leb (number_of t.refusal) 99) (small ts) false
 
-same_number : {x r : Refusal} → Refuse x ≡ Refuse r → number_of x ≤ 99 → number_of r ≤ 99
+same_number : {x r : Refusal} → ◌≡◌ {A = Verdict} (Err x) (Err r) → number_of x ≤ 99 → number_of r ≤ 99
 same_number {x} {r} e h = let z : x ≡ r = cc in rw z at h
 
 small_or : (v w : Verdict) → Small v → Small w → Small (or_else v w)
-small_or Fine w a b = b
-small_or (Refuse x) w a b = a
+small_or (Ok _) w a b = b
+small_or (Err x) w a b = a
 
 small_first : (ts : List Test) → T (small ts) → Small (first_of ts)
 unfolding first_of
 small_first [] h = λ r e. absurd (let z : ◌≡◌ {A = ℕ} 0 1 = cc in omega arith)
 small_first (t ∷ ts) h = here t.holds (leb (number_of t.refusal) 99) refl h (small_first ts)
   where
-    here : (b c : Bool) → leb (number_of t.refusal) 99 ≡ c → T (cond c (small ts) false) → (T (small ts) → Small (first_of ts)) → Small (cond b (Refuse t.refusal) (first_of ts))
+    here : (b c : Bool) → leb (number_of t.refusal) 99 ≡ c → T (cond c (small ts) false) → (T (small ts) → Small (first_of ts)) → Small (cond b (Err t.refusal) (first_of ts))
     here true true q h rest = λ r e. same_number e (leb-true (number_of t.refusal) 99 q)
     here false true q h rest = rest h
     here b false q h rest = absurd h
@@ -97,7 +95,7 @@ line_most n h = let l = refusal_length n (omega arith) in omega arith
 
 -- ---- an accepted call: a draw that fits 64 bits
 module _ (seed : ℕ) (s : Score) where
-  draw_fits : (d : ℕ) → refusal_at s d ≡ Fine → (all_taken seed s d).x < 2 ^ 64
+  draw_fits : (d : ℕ) → refusal_at s d ≡ Ok tt → (all_taken seed s d).x < 2 ^ 64
   unfolding refusal_at
   draw_fits d e =
       let over = none_holds _ (or_fine (refusal s) _ e).1 in
@@ -109,10 +107,10 @@ module _ (seed : ℕ) (s : Score) where
 abbrev shown_after : ℕ → ℕ → (ℕ → ℕ) → Result → List ℕ
 shown_after d x state r = shown_at (state (new_draw r d x)) (new_draw r d x) r
 
-shown_most : (v : Verdict) (D d x : ℕ) (frames : List Float) (state : ℕ → ℕ) → Small v → (v ≡ Fine → x < 2 ^ 64) → length frames ≤ 2048
+shown_most : (v : Verdict) (D d x : ℕ) (frames : List Float) (state : ℕ → ℕ) → Small v → (v ≡ Ok tt → x < 2 ^ 64) → length frames ≤ 2048
     → length (shown_after d x state (unless v (accepted D frames))) ≤ 32808
-shown_most Fine D d x frames state few f l = let k = listing_length (state x) x frames (f refl) l in omega arith
-shown_most (Refuse r) D d x frames state few f l = line_most (number_of r) (few r refl)
+shown_most (Ok _) D d x frames state few f l = let k = listing_length (state x) x frames (f refl) l in omega arith
+shown_most (Err r) D d x frames state few f l = line_most (number_of r) (few r refl)
 
 played_most : (seq : Seq) (notes : List ℕ) (n seed draw : ℕ) → n ≤ 2048 → length (played seq notes n seed draw) ≤ 32808
 unfolding played tally tallied
@@ -141,7 +139,7 @@ module _ (text reply₀ : List ℕ) (room : 32808 ≤ length reply₀) where
   never_short : too_short text reply₀ ≡ false
   never_short = let l = listing_most text in le-ltb (length reply₀) (length (listing text)) (omega arith)
 
-  pub always_listed : reply_of text reply₀ ≡ Listing (length (listing text))
+  pub always_listed : reply_of text reply₀ ≡ Some (length (listing text))
   unfolding reply_of
   always_listed = rw never_short
 
@@ -149,15 +147,15 @@ module _ (text reply₀ : List ℕ) (room : 32808 ≤ length reply₀) where
   unfolding bytes_after
   always_bytes = rw never_short
 
-module _ {text reply₀ reply : List ℕ} {said : Reply} (room : 32808 ≤ length reply₀) (h : Replied text reply₀ said reply) where
-  pub reply_whole : {n : ℕ} → said ≡ Listing n → (n ≡ length (listing text)) × (reply ≡ listing text ++ drop n reply₀)
+module _ {text reply₀ reply : List ℕ} {said : Option ℕ} (room : 32808 ≤ length reply₀) (h : Replied text reply₀ said reply) where
+  pub reply_whole : {n : ℕ} → said ≡ Some n → (n ≡ length (listing text)) × (reply ≡ listing text ++ drop n reply₀)
   reply_whole {n} told =
       let is = always_listed text reply₀ room in
       let answer = h.answer in
       let size : n ≡ length (listing text) = cc in
       (size, rw size (h.bytes ∙ always_bytes text reply₀ room))
 
-  pub reply_not_short : said ≡ Short → ⊥
+  pub reply_not_short : said ≡ None → ⊥
   reply_not_short told =
       let is = always_listed text reply₀ room in
       let answer = h.answer in

@@ -22,8 +22,8 @@ use Rattle.text_listing.specs.Lines.{printed_r}
 use Rattle.text_reply.specs.Shown.{shown_at}
 use Rattle.text_judge.specs.Call.{call_of}
 use Rattle.text_judge.specs.Judged.{Judges}
-use Rattle.text_judge.specs.declared.judge.Judged.{Judged}
-use Rattle.text_judge.specs.declared.judge.Judged.TheVariants.{Refused}
+use Rattle.std.specs.Prelude.{Err}
+use Rattle.std.specs.Prelude as std
 use Rattle.text_judge.proofs.Past.{Past, judged_refused}
 use Rattle.text.specs.Listing.{shown_one, shown, played, played_read, listing}
 
@@ -47,7 +47,7 @@ played_by seq notes n seed draw a e opened first scored is =
     one_call seed draw (on_station e) (first_station seed draw a e opened first scored) ∙ ap (λ (s : Score). shown seed (tally seed draw (s ∷ []))) is
 
 -- ---- which listing a text has that was judged
-pub listing_refused : {text words₀ words : List ℕ} {r : Judged} (h : Judges text words₀ r words) {n : ℕ} → r ≡ Refused n → printed_r n ≡ listing text
+pub listing_refused : {text words₀ words : List ℕ} {r : std.Result TextScore ℕ} (h : Judges text words₀ r words) {n : ℕ} → r ≡ Err n → printed_r n ≡ listing text
 unfolding listing
 listing_refused {text} h is = judged_refused h printed_r (played_read (text_of text)) is
 

@@ -1,31 +1,28 @@
 // The score call of a text score.
 ghost use Rattle.std.specs.Prelude.{◌≤◌};
 ghost use Rattle.text.specs.Listing.{played};
+ghost use Rattle.text_read.specs.Text.{seq_of};
 ghost use Rattle.text_reply.specs.Reply.{Fitted};
 
-use score::Seq;
 use session::{Session, StationAnswer};
 use text_judge::{frames_buffer, string_buffer};
-use text_reply::{Reply, reply_answer};
+use text_read::TextScore;
+use text_reply::reply_answer;
 
-// Plays n frames on station 0 of the session that `seed` and `draw` open, and prints the listing at the
+// Plays what a text says on station 0 of the session that its G line opens, and prints the listing at the
 // start of `reply`, where it fits.
-pub(crate) fn play_score(
-    seq: Seq,
-    notes: &[u32],
-    n: usize,
-    seed: u64,
-    draw: u64,
-    reply: &mut [u8],
-) -> Reply
-    requires { n ≤ 2048 }
-    ensures { Fitted (played seq notes.now n seed draw) reply.old result reply.new }
+pub(crate) fn play_score(score: TextScore, notes: &[u32], reply: &mut [u8]) -> Option<usize>
+    requires { score.numbers.n ≤ 2048 }
+    ensures { Fitted (played (seq_of score.numbers score.env score.sound) notes.now score.numbers.n score.seed score.draw) reply.old result reply.new }
 {
     let lane = [0.0f32; 1];
     let mut frames = frames_buffer();
     let mut note_buf = frames_buffer();
     let mut string = string_buffer();
-    let session = Session::open(seed, draw);
+    let session = Session::open(score.seed, score.draw);
+    let numbers = score.numbers;
+    let n = numbers.n as usize;
+    let seq = score.seq();
     let out = &mut frames[..n];
     let answer = seq::render_seq(
         session,

@@ -44,6 +44,27 @@ module _ {n i : ℕ} (v : ℕ) (s : List ℕ) (at d : ℕ) (lt : i < n) where
   unfolding hex_from
   hex_more h e l = rw (left_one, head s at h, ← e, lt-ltb d 16 l)
 
+-- the digits, and what is none of a base up to 16
+pub digit_low : (b : ℕ) → 48 ≤ b → b ≤ 57 → digit_of b ≡ b - 48
+unfolding digit_of
+digit_low b h l = rw (le-ltb b 48 h, lt-ltb b 58 (omega arith))
+
+pub digit_high : (b : ℕ) → 97 ≤ b → b ≤ 102 → digit_of b ≡ b - 87
+unfolding digit_of
+digit_high b h l = rw (le-ltb b 48 (omega arith), le-ltb b 58 (omega arith), le-ltb b 97 h, lt-ltb b 103 (omega arith))
+
+pub digit_below : (b : ℕ) → b < 48 → digit_of b ≡ 16
+unfolding digit_of
+digit_below b h = rw (lt-ltb b 48 h)
+
+pub digit_between : (b : ℕ) → 57 < b → b < 97 → digit_of b ≡ 16
+unfolding digit_of
+digit_between b h l = rw (le-ltb b 48 (omega arith), le-ltb b 58 (omega arith), lt-ltb b 97 l)
+
+pub digit_above : (b : ℕ) → 102 < b → digit_of b ≡ 16
+unfolding digit_of
+digit_above b h = rw (le-ltb b 48 (omega arith), le-ltb b 58 (omega arith), le-ltb b 97 (omega arith), le-ltb b 103 (omega arith))
+
 -- the value keeps to the digits read
 pub hex_room : (i v d : ℕ) → i < 16 → v < 2 ^ (4 * i) → d < 16 → (v * 16 + d < 2 ^ 64) × (v * 16 + d < 2 ^ (4 * (i + 1)))
 hex_room i v d h l e =

@@ -1,107 +1,73 @@
 // Bytes and numbers of a text score, each read at a place.
 #![tactic(auto)]
 
-ghost use Rattle.std.specs.Prelude.{◌≡◌, ◌≤◌, drop};
+ghost use Rattle.std.specs.Prelude.{◌≡◌, ◌≤◌, ◌<◌, MatchOption, drop};
 ghost use Rattle.text_digits.specs.Read.{digit_of, byte, hex, decimal};
 ghost use Rattle.text_digits.specs.Answers.{place_in, value_in};
 
-// The place after what was asked for.
-#[derive(Clone, Copy)]
-pub enum Place {
-    At(usize),
-    Broken,
-}
-
-// A number and the place after it.
-#[derive(Clone, Copy)]
-pub enum Number {
-    At(u64, usize),
-    Broken,
-}
-
-// The byte b. At the end of the bytes there is none.
-pub fn expect(s: &[u8], at: usize, b: u8) -> Place
+// The byte b, and the place after it. At the end of the bytes there is none.
+pub fn expect(s: &[u8], at: usize, b: u8) -> Option<usize>
     ensures { place_in s.now b result ≡ byte b (drop at s.now) }
 {
     if at < s.len() {
-        if s[at] == b {
-            return Place::At(at + 1);
-        }
-        return Place::Broken;
+        return if s[at] == b { Some(at + 1) } else { None };
     }
-    Place::Broken
+    None
 }
 
-// The value of a digit, 16 where the byte is none.
-fn digit(b: u8) -> u64
-    ensures { result ≡ digit_of b }
+// The value of a digit of the base.
+fn digit(b: u8, base: u64) -> Option<u64>
+    requires { base ≤ 16 }
+    ensures { MatchOption result (base ≤ digit_of b) (λ d. (d ≡ digit_of b) × (d < base)) }
 {
-    if b < 48 {
-        return 16;
-    }
-    if b < 58 {
-        return (b - 48) as u64;
-    }
-    if b < 97 {
-        return 16;
-    }
-    if b < 103 {
-        return (b - 87) as u64;
-    }
-    16
+    let d = match b {
+        b'0'..=b'9' => (b - b'0') as u64,
+        b'a'..=b'f' => (b - b'a') as u64 + 10,
+        _ => return None,
+    };
+    if d < base { Some(d) } else { None }
 }
 
-// Exactly `count` lowercase hexadecimal digits.
-pub fn hex(s: &[u8], start: usize, count: usize) -> Number
+// Exactly `count` lowercase hexadecimal digits: their value, and the place after them.
+pub fn hex(s: &[u8], start: usize, count: usize) -> Option<(u64, usize)>
     requires { count ≤ 16 }
     ensures { value_in s.now result ≡ hex count (drop start s.now) }
 {
     let mut v: u64 = 0;
     let mut at = start;
-    let mut i: usize = 0;
-    while i < count {
+    for i in 0..count {
         if s.len() <= at {
-            return Number::Broken;
+            return None;
         }
-        let d = digit(s[at]);
-        if 16 <= d {
-            return Number::Broken;
-        }
+        let d = digit(s[at], 16)?;
         v = v * 16 + d;
         at += 1;
-        i += 1;
     }
-    Number::At(v, at)
+    Some((v, at))
 }
 
-// A decimal number without leading zeros, at most `most`. The test before v grows is the one that
-// keeps it from wrapping.
-pub fn decimal(s: &[u8], start: usize, most: u64) -> Number
+// A decimal number without leading zeros, at most `most`, and the place after it. The test before v
+// grows is the one that keeps it from wrapping.
+pub fn decimal(s: &[u8], start: usize, most: u64) -> Option<(u64, usize)>
     requires { 9 ≤ most }
     ensures { value_in s.now result ≡ decimal most (drop start s.now) }
 {
     if s.len() <= start {
-        return Number::Broken;
+        return None;
     }
     let first = s[start];
-    let mut at = start + 1;
-    if first == 48 {
-        return Number::At(0, at);
+    if first == b'0' {
+        return Some((0, start + 1));
     }
-    let mut v = digit(first);
-    if 10 <= v {
-        return Number::Broken;
-    }
-    while at < s.len() {
-        let next = digit(s[at]);
-        if 10 <= next {
-            return Number::At(v, at);
-        }
+    let mut v = digit(first, 10)?;
+    for at in start + 1..s.len() {
+        let Some(next) = digit(s[at], 10) else {
+            return Some((v, at));
+        };
         if (most - next) / 10 < v {
-            return Number::Broken;
+            return None;
         }
         v = v * 10 + next;
-        at += 1;
     }
-    Number::At(v, at)
+    Some((v, s.len()))
 }

@@ -5,7 +5,6 @@ use mathlib.Core.List.{List}
 use native.Mathlib.Omega.{arith}
 use borrow.Author.Tests.{le-ltb}
 use lib.ListN.{length, take}
-use Rattle.score.specs.Score.{Score}
 use Rattle.text_digits.specs.Read.{got}
 use Rattle.text_read.specs.Notes.{count_of, words_after}
 use Rattle.text_read.specs.Text.{Text, seq_of, seq_in, text_of, text_score_of}
@@ -14,8 +13,7 @@ use Rattle.text_read.proofs.Said.{Said, said_words}
 use Rattle.text_judge.specs.Call.{call_of}
 use Rattle.text_judge.specs.Refusal.{text_refusal, unless_refused}
 use Rattle.text_judge.specs.Judged.{judged_read, judged, words_left, Judges}
-use Rattle.text_judge.specs.declared.judge.Judged.{Judged}
-use Rattle.text_judge.specs.declared.judge.Judged.TheVariants as judgement
+use Rattle.std.specs.Prelude.{Result, Ok, Err}
 use Rattle.text_judge.proofs.Refused.{Unrefused, unrefused_read}
 use Rattle.text_judge.proofs.Unless.{number_refuses}
 
@@ -31,7 +29,7 @@ pub record Past (text : List ℕ) (x : TextScore) (words : List ℕ) : Type 0 wh
   pub few : x.count ≤ 256
 
 -- ---- a score
-unrefused_by : (n : ℕ) (r : Judged) {x : TextScore} → judgement.Score x ≡ unless_refused judgement.Refused n r → (n ≡ 0) × (judgement.Score x ≡ r)
+unrefused_by : (n : ℕ) (r : Result TextScore ℕ) {x : TextScore} → Ok x ≡ unless_refused Err n r → (n ≡ 0) × (Ok x ≡ r)
 unrefused_by zero r e = (refl, e)
 unrefused_by (suc n) r e = (cc, cc)
 
@@ -56,32 +54,32 @@ module _ (text words₀ : List ℕ) (room : 1280 ≤ length words₀) where
         few = omega (arith, many, u.notes);
       }
 
-  pub judged_past : {r : Judged} {words : List ℕ} {x : TextScore} → Judges text words₀ r words → r ≡ judgement.Score x → Past text x words
+  pub judged_past : {r : Result TextScore ℕ} {words : List ℕ} {x : TextScore} → Judges text words₀ r words → r ≡ Ok x → Past text x words
   unfolding judged
   judged_past {r} {words} {x} h is =
       let by = unrefused_by (text_refusal text) (judged_read (text_of text)) (sym is ∙ h.answer) in
       let u = unrefused_read text by.0 in
-      let same : judgement.Score x ≡ judgement.Score (text_score_of u.said) = rw u.is at by.1 in
+      let same : Ok x ≡ Ok (text_score_of u.said) = rw u.is at by.1 in
       let score : x ≡ text_score_of u.said = cc in
       past_from by.0 u score h.stored
 
 -- ---- a refusal
-module _ {text words₀ words : List ℕ} {r : Judged} (h : Judges text words₀ r words) where
+module _ {text words₀ words : List ℕ} {r : Result TextScore ℕ} (h : Judges text words₀ r words) where
   -- its number is the text's, and not 0
-  pub judged_number : {n : ℕ} → r ≡ judgement.Refused n → (n ≡ text_refusal text) × (0 < n)
+  pub judged_number : {n : ℕ} → r ≡ Err n → (n ≡ text_refusal text) × (0 < n)
   unfolding judged
   judged_number {n} is = by (text_refusal text) refl (sym is ∙ h.answer)
     where
-      by : (k : ℕ) → text_refusal text ≡ k → judgement.Refused n ≡ unless_refused judgement.Refused k (judged_read (text_of text)) → (n ≡ k) × (0 < n)
+      by : (k : ℕ) → text_refusal text ≡ k → Err n ≡ unless_refused Err k (judged_read (text_of text)) → (n ≡ k) × (0 < n)
       by zero none e =
           let u = unrefused_read text none in
-          let not : judgement.Refused n ≡ judgement.Score (text_score_of u.said) = rw u.is at e in
+          let not : Err n ≡ Ok (text_score_of u.said) = rw u.is at e in
           let z : ◌≡◌ {A = ℕ} 0 1 = cc in
           absurd (omega arith)
       by (suc k) some e = let z : n ≡ suc k = cc in (z, omega arith)
 
   -- what a text comes to that it refuses
-  pub judged_refused : {X : Type 0} (refused : ℕ → X) (x : X) {n : ℕ} → r ≡ judgement.Refused n → refused n ≡ unless_refused refused (text_refusal text) x
+  pub judged_refused : {X : Type 0} (refused : ℕ → X) (x : X) {n : ℕ} → r ≡ Err n → refused n ≡ unless_refused refused (text_refusal text) x
   judged_refused refused x {n} is = let by = judged_number is in rw (← by.0) (number_refuses refused n x by.1)
 
 -- ---- the score call of what was judged is that of what the text says

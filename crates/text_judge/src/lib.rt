@@ -5,4 +5,4 @@ mod buffers; // buffers.rt: what a text call reads and plays in
 mod judge; // judge.rt: the tests of a text
 
 pub use buffers::{frames_buffer, string_buffer, words_buffer};
-pub use judge::{Judged, judge_text};
+pub use judge::judge_text;

@@ -6,12 +6,9 @@ use native.Mathlib.Omega.{arith}
 use native.Mathlib.Numerals.{add-one}
 use lib.ListN.{length, take, drop, set, get_or, length-set, drop_of_length-le, take-append-drop}
 use lib.Seq.{take-suc-set, take_all, drop-set-lt, drop-drop, length-take-le}
+use Rattle.std.specs.Prelude.{Option, Some, None}
 use Rattle.text_digits.specs.Read.{Read, got, broken, after}
 use Rattle.text_digits.specs.Answers.{place_in, value_in}
-use Rattle.text_digits.specs.declared.Place.{Place}
-use Rattle.text_digits.specs.declared.Place.TheVariants as place
-use Rattle.text_digits.specs.declared.Number.{Number}
-use Rattle.text_digits.specs.declared.Number.TheVariants.{At, Broken}
 use Rattle.text_lines.specs.Line.{field, fields, before, leading, stored_in, line, form_s, form_e, numbers_of, env_of_bits, line_s, line_e}
 use Rattle.text_digits.proofs.Reading.{head}
 
@@ -29,13 +26,13 @@ unfolding before
 before_before us vs (got ws s) = ap (λ (l : List ℕ). got l s) (append_assoc us vs ws)
 before_before us vs broken = refl
 
-module _ (vs kinds s : List ℕ) (i at : ℕ) {r : Number} where
-  pub fields_bad : i < length kinds → r ≡ Broken → value_in s r ≡ field (get_or kinds i 0) (drop at s) → broken ≡ before vs (fields (drop i kinds) (drop at s))
+module _ (vs kinds s : List ℕ) (i at : ℕ) {r : Option (ℕ × ℕ)} where
+  pub fields_bad : i < length kinds → r ≡ None → value_in s r ≡ field (get_or kinds i 0) (drop at s) → broken ≡ before vs (fields (drop i kinds) (drop at s))
   unfolding fields
   fields_bad h told e = rw (head kinds i h, ← (rw told at e)) (before_broken vs)
 
-module _ (vs kinds s : List ℕ) (i at : ℕ) {v next : ℕ} {r : Number} where
-  pub fields_more : i < length kinds → i < length vs → r ≡ At v next → value_in s r ≡ field (get_or kinds i 0) (drop at s)
+module _ (vs kinds s : List ℕ) (i at : ℕ) {v next : ℕ} {r : Option (ℕ × ℕ)} where
+  pub fields_more : i < length kinds → i < length vs → r ≡ Some (v, next) → value_in s r ≡ field (get_or kinds i 0) (drop at s)
       → before (take (i + 1) (set vs i v)) (fields (drop (i + 1) kinds) (drop next s)) ≡ before (take i vs) (fields (drop i kinds) (drop at s))
   unfolding fields
   fields_more h l told e =
@@ -70,12 +67,12 @@ module _ {kinds s : List ℕ} {start : ℕ} {values₀ : List ℕ} {i at : ℕ} 
   unfolding leading
   led_all l = led_end (rw (drop_of_length-le kinds l))
 
-  module _ (lt : i < length kinds) {r : Number} (e : value_in s r ≡ field (get_or kinds i 0) (drop at s)) where
-    pub led_bad : r ≡ Broken → values ≡ stored_in (leading kinds (drop start s)) values₀
+  module _ (lt : i < length kinds) {r : Option (ℕ × ℕ)} (e : value_in s r ≡ field (get_or kinds i 0) (drop at s)) where
+    pub led_bad : r ≡ None → values ≡ stored_in (leading kinds (drop start s)) values₀
     unfolding leading
     led_bad told = led_end (rw (head kinds i lt, ← (rw told at e)))
 
-    pub led_more : {v next : ℕ} → i < length values → r ≡ At v next → Led kinds s start values₀ (i + 1) next (set values i v)
+    pub led_more : {v next : ℕ} → i < length values → r ≡ Some (v, next) → Led kinds s start values₀ (i + 1) next (set values i v)
     unfolding leading
     led_more {v} {next} l told =
         let one : take (i + 1) (set values i v) ≡ take i values ++ (v ∷ []) = rw add-one (take-suc-set values i v l) in
@@ -87,9 +84,9 @@ module _ {kinds s : List ℕ} {start : ℕ} {values₀ : List ℕ} {i at : ℕ} 
         }
 
 -- the newline's place is the line's, whatever the line's value
-pub newline_placed : {A B : Type 0} (s : List ℕ) (b : A) (v : B) {x : Read A} (r : Place) → place_in s b r ≡ x → place_in s v r ≡ after x (λ _ next. got v next)
-newline_placed s b v (place.At next) e = rw (← e)
-newline_placed s b v place.Broken e = rw (← e)
+pub newline_placed : {A B : Type 0} (s : List ℕ) (b : A) (v : B) {x : Read A} (r : Option ℕ) → place_in s b r ≡ x → place_in s v r ≡ after x (λ _ next. got v next)
+newline_placed s b v (Some next) e = rw (← e)
+newline_placed s b v None e = rw (← e)
 
 -- a line whose values fill a slice
 module _ (l x : List ℕ) {rest : List ℕ} where

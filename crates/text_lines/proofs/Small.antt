@@ -6,11 +6,10 @@ use native.Mathlib.Omega.{arith}
 use borrow.Author.Tests.{ltb-true, leb-true}
 use lib.ListN.{drop}
 use lib.Dec.{ltb, leb, eqb}
+use Rattle.std.specs.Prelude.{Option, Some}
 use Rattle.text_digits.specs.Read.{Read, got, broken, digit_of, hex_from, digits_from, fitting, decimal, byte}
 use Rattle.text_lines.specs.Line.{value, field}
 use Rattle.text_digits.specs.Answers.{value_in}
-use Rattle.text_digits.specs.declared.Number.{Number}
-use Rattle.text_digits.specs.declared.Number.TheVariants.{At}
 use Rattle.text_lines.proofs.Forms.{broken_got, test_picked, either, parted}
 use Rattle.text_digits.proofs.Reading.{hex_room}
 
@@ -49,7 +48,7 @@ value_small kind s {w} {r} e =
     either (eqb kind 8) (hex_from 8 0 s) (decimal 0xffffffff s) (got w r) (λ p. hex_small 8 0 0 s (omega arith) (omega arith) p)
     (λ p. let l = decimal_small 0xffffffff s p in omega arith) e
 
-pub field_small : (kind at : ℕ) (s : List ℕ) {w next : ℕ} {r : Number} → r ≡ At w next → value_in s r ≡ field kind (drop at s) → w < 2 ^ 32
+pub field_small : (kind at : ℕ) (s : List ℕ) {w next : ℕ} {r : Option (ℕ × ℕ)} → r ≡ Some (w, next) → value_in s r ≡ field kind (drop at s) → w < 2 ^ 32
 unfolding field
 field_small kind at s told e =
     let p = parted (byte 9 (drop at s)) (λ _ rest. value kind rest) (sym (rw told at e)) in

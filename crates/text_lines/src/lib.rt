@@ -3,19 +3,19 @@
 #![tactic(auto)]
 
 ghost use Rattle.std.specs.Prelude.{◌≡◌, ◌≤◌, length, take, drop};
-ghost use Rattle.text_lines.specs.Line.{value, field, fields, ending, line, leading, stored_in, leading_line, float_at, line_s, seed_field, draw_field, line_g, line_e};
+ghost use Rattle.text_lines.specs.Line.{value, field, fields, ending, line, leading, stored_in, leading_line, float_at, line_s, line_g, line_e};
 ghost use Rattle.text_digits.specs.Answers.{place_in, value_in};
-ghost use Rattle.text_lines.specs.Answers.{numbers_in, opening_in, env_in};
 
 use dsl::Adsr;
-use text_digits::{Number, Place, decimal, expect, hex};
+use text_digits::{decimal, expect, hex};
 
-// The kinds of a field: the bits of an f32 in 8 digits, or a decimal number of 32 bits.
+// The kinds of a field: the bits of an f32 in 8 digits, or a decimal number of 32 bits. They stay numbers: `field`,
+// `ending` and `line` take any, as their definitions do, and an enum would ask more of a caller.
 pub const FLOAT: u8 = 8;
 
 pub const WORD: u8 = 32;
 
-fn value(s: &[u8], at: usize, kind: u8) -> Number
+fn value(s: &[u8], at: usize, kind: u8) -> Option<(u64, usize)>
     ensures { value_in s.now result ≡ value kind (drop at s.now) }
 {
     if kind == FLOAT {
@@ -25,56 +25,46 @@ fn value(s: &[u8], at: usize, kind: u8) -> Number
 }
 
 // A tab and a value.
-pub fn field(s: &[u8], at: usize, kind: u8) -> Number
+pub fn field(s: &[u8], at: usize, kind: u8) -> Option<(u64, usize)>
     ensures { value_in s.now result ≡ field kind (drop at s.now) }
 {
-    let Place::At(next) = expect(s, at, b'\t') else {
-        return Number::Broken;
-    };
+    let next = expect(s, at, b'\t')?;
     value(s, next, kind)
 }
 
 // A field of each of `kinds`, their values into `values`: those before the first that is not of its
 // kind are stored.
-fn fields(s: &[u8], start: usize, kinds: &[u8], values: &mut [u32]) -> Place
+fn fields(s: &[u8], start: usize, kinds: &[u8], values: &mut [u32]) -> Option<usize>
     requires { length kinds.now ≤ length values.old }
     ensures result_after { place_in s.now (take (length kinds.now) values.new) result ≡ fields kinds.now (drop start s.now) }
     ensures stored { values.new ≡ stored_in (leading kinds.now (drop start s.now)) values.old }
 {
     let mut at = start;
-    let mut i: usize = 0;
-    while i < kinds.len() {
-        let Number::At(v, next) = field(s, at, kinds[i]) else {
-            return Place::Broken;
-        };
+    for (i, kind) in kinds.iter().enumerate() {
+        let (v, next) = field(s, at, *kind)?;
         values[i] = v as u32;
         at = next;
-        i += 1;
     }
-    Place::At(at)
+    Some(at)
 }
 
 // The fields that end a line, and its newline.
-pub fn ending(s: &[u8], at: usize, kinds: &[u8], values: &mut [u32]) -> Place
+pub fn ending(s: &[u8], at: usize, kinds: &[u8], values: &mut [u32]) -> Option<usize>
     requires { length kinds.now ≤ length values.old }
     ensures result_after { place_in s.now (take (length kinds.now) values.new) result ≡ ending kinds.now (drop at s.now) }
     ensures stored { values.new ≡ stored_in (leading kinds.now (drop at s.now)) values.old }
 {
-    let Place::At(last) = fields(s, at, kinds, values) else {
-        return Place::Broken;
-    };
+    let last = fields(s, at, kinds, values)?;
     expect(s, last, b'\n')
 }
 
 // A line: a letter and the fields.
-pub fn line(s: &[u8], at: usize, letter: u8, kinds: &[u8], values: &mut [u32]) -> Place
+pub fn line(s: &[u8], at: usize, letter: u8, kinds: &[u8], values: &mut [u32]) -> Option<usize>
     requires { length kinds.now ≤ length values.old }
     ensures result_after { place_in s.now (take (length kinds.now) values.new) result ≡ line letter kinds.now (drop at s.now) }
     ensures stored { values.new ≡ stored_in (leading_line letter kinds.now (drop at s.now)) values.old }
 {
-    let Place::At(next) = expect(s, at, letter) else {
-        return Place::Broken;
-    };
+    let next = expect(s, at, letter)?;
     ending(s, next, kinds, values)
 }
 
@@ -99,20 +89,12 @@ pub struct Numbers {
     pub humanize: f32,
 }
 
-#[derive(Clone, Copy)]
-pub enum LineS {
-    At(Numbers, usize),
-    Broken,
-}
-
-pub fn line_s(s: &[u8], at: usize) -> LineS
-    ensures { numbers_in s.now result ≡ line_s (drop at s.now) }
+pub fn line_s(s: &[u8], at: usize) -> Option<(Numbers, usize)>
+    ensures { value_in s.now result ≡ line_s (drop at s.now) }
 {
     let mut values = [0u32; 6];
     let kinds = [WORD, WORD, FLOAT, WORD, FLOAT, FLOAT];
-    let Place::At(next) = line(s, at, b'S', &kinds, &mut values) else {
-        return LineS::Broken;
-    };
+    let next = line(s, at, b'S', &kinds, &mut values)?;
     let numbers = Numbers {
         rate: values[0],
         n: values[1],
@@ -121,7 +103,7 @@ pub fn line_s(s: &[u8], at: usize) -> LineS
         swing: float_at(&values, 4),
         humanize: float_at(&values, 5),
     };
-    LineS::At(numbers, next)
+    Some((numbers, next))
 }
 
 // What opens the session: a line G.
@@ -131,63 +113,24 @@ pub struct Opening {
     pub draw: u64,
 }
 
-#[derive(Clone, Copy)]
-pub enum LineG {
-    At(Opening, usize),
-    Broken,
-}
-
-fn seed_field(s: &[u8], at: usize) -> Number
-    ensures { value_in s.now result ≡ seed_field (drop at s.now) }
+pub fn line_g(s: &[u8], at: usize) -> Option<(Opening, usize)>
+    ensures { value_in s.now result ≡ line_g (drop at s.now) }
 {
-    let Place::At(next) = expect(s, at, b'\t') else {
-        return Number::Broken;
-    };
-    hex(s, next, 16)
+    let seed_tab = expect(s, at, b'G')?;
+    let seed_at = expect(s, seed_tab, b'\t')?;
+    let (seed, draw_tab) = hex(s, seed_at, 16)?;
+    let draw_at = expect(s, draw_tab, b'\t')?;
+    let (draw, end) = decimal(s, draw_at, 0xffff_ffff_ffff_ffff)?;
+    let next = expect(s, end, b'\n')?;
+    Some((Opening { seed, draw }, next))
 }
 
-fn draw_field(s: &[u8], at: usize) -> Number
-    ensures { value_in s.now result ≡ draw_field (drop at s.now) }
-{
-    let Place::At(next) = expect(s, at, b'\t') else {
-        return Number::Broken;
-    };
-    decimal(s, next, 0xffff_ffff_ffff_ffff)
-}
-
-pub fn line_g(s: &[u8], at: usize) -> LineG
-    ensures { opening_in s.now result ≡ line_g (drop at s.now) }
-{
-    let Place::At(a) = expect(s, at, b'G') else {
-        return LineG::Broken;
-    };
-    let Number::At(seed, b) = seed_field(s, a) else {
-        return LineG::Broken;
-    };
-    let Number::At(draw, c) = draw_field(s, b) else {
-        return LineG::Broken;
-    };
-    let Place::At(next) = expect(s, c, b'\n') else {
-        return LineG::Broken;
-    };
-    let opening = Opening { seed, draw };
-    LineG::At(opening, next)
-}
-
-#[derive(Clone, Copy)]
-pub enum LineE {
-    At(Adsr, usize),
-    Broken,
-}
-
-pub fn line_e(s: &[u8], at: usize) -> LineE
-    ensures { env_in s.now result ≡ line_e (drop at s.now) }
+pub fn line_e(s: &[u8], at: usize) -> Option<(Adsr, usize)>
+    ensures { value_in s.now result ≡ line_e (drop at s.now) }
 {
     let mut values = [0u32; 5];
     let kinds = [FLOAT; 5];
-    let Place::At(next) = line(s, at, b'E', &kinds, &mut values) else {
-        return LineE::Broken;
-    };
+    let next = line(s, at, b'E', &kinds, &mut values)?;
     let env = Adsr {
         a: float_at(&values, 0),
         d: float_at(&values, 1),
@@ -195,5 +138,5 @@ pub fn line_e(s: &[u8], at: usize) -> LineE
         r: float_at(&values, 3),
         punch: float_at(&values, 4),
     };
-    LineE::At(env, next)
+    Some((env, next))
 }

@@ -63,7 +63,8 @@ pub fn put_hex_16(out: &mut [u8], at: usize, v: u64) -> usize
     put_hex_8(out, next, v)
 }
 
-// The last 2, 4, 8 and 16 decimal digits of v.
+// The last 2, 4, 8 and 16 decimal digits of v. They stand beside the hexadecimal ones, since each divides by
+// constants of its own base, and no const argument is computed from another.
 fn put_decimal_2(out: &mut [u8], at: usize, v: u64) -> usize
     requires { Room (last_digits 10 2 v) at out.old }
     ensures { Printed (last_digits 10 2 v) at out.old result out.new }
@@ -144,7 +145,8 @@ pub fn put_decimal(out: &mut [u8], at: usize, v: u64) -> usize
     put_decimal_16(out, next, v)
 }
 
-// A tab and 8 hexadecimal digits.
+// A tab and 8 hexadecimal digits. Three functions, since the two lines that they share are shorter than a
+// closure or a trait that says which number follows the tab.
 pub(crate) fn put_hex_8_field(out: &mut [u8], at: usize, v: u64) -> usize
     requires { Room (tabbed_text (hex_text 8 v)) at out.old }
     ensures { Printed (tabbed_text (hex_text 8 v)) at out.old result out.new }

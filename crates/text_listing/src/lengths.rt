@@ -1,5 +1,5 @@
 // How long a text is before it is printed, so that a reply can be asked first whether it has the room.
-ghost use Rattle.std.specs.Prelude.{◌≡◌, ◌-◌, ◌≤◌, ◌<◌, length};
+ghost use Rattle.std.specs.Prelude.{◌≡◌, ◌≤◌, ◌<◌, length};
 ghost use Rattle.text_listing.specs.Digits.{decimal_text};
 ghost use Rattle.text_listing.specs.Lines.{printed_r, LinesLength, ListingLength};
 
@@ -42,21 +42,12 @@ pub fn decimal_length(v: u64) -> usize
     short_length(v / 10_000_000_000_000_000) + 16
 }
 
-fn past(n: usize, k: usize) -> usize
-    ensures { result ≡ n - k }
-{
-    if n < k {
-        return 0;
-    }
-    n - k
-}
-
 // The lines of n frames, whatever they hold: 13 bytes each, and one more for each further digit of an index.
 fn lines_length(n: usize) -> usize
     requires { n ≤ 2048 }
     ensures { LinesLength n result }
 {
-    13 * n + past(n, 10) + past(n, 100) + past(n, 1000)
+    13 * n + n.saturating_sub(10) + n.saturating_sub(100) + n.saturating_sub(1000)
 }
 
 // A listing of n frames after `draw` draws.

@@ -43,10 +43,8 @@ fn put_frames(out: &mut [u8], start: usize, frames: &[f32]) -> usize
     ensures { Printed (frame_lines (length frames.now) frames.now) start out.old result out.new }
 {
     let mut at = start;
-    let mut i: usize = 0;
-    while i < frames.len() {
-        at = put_frame(out, at, i, frame_bits(frames[i]));
-        i += 1;
+    for (i, frame) in frames.iter().enumerate() {
+        at = put_frame(out, at, i, frame_bits(*frame));
     }
     at
 }
@@ -57,10 +55,8 @@ pub fn put_lines(out: &mut [u8], bits: &[u32]) -> usize
     ensures { Printed (lines_of bits.now) 0 out.old result out.new }
 {
     let mut at = 0;
-    let mut i: usize = 0;
-    while i < bits.len() {
-        at = put_frame(out, at, i, bits[i]);
-        i += 1;
+    for (i, pattern) in bits.iter().enumerate() {
+        at = put_frame(out, at, i, *pattern);
     }
     at
 }

@@ -5,4 +5,3 @@ mod call; // call.rt: the call on a text
 mod total; // total.rt: the planning call of a text score
 
 pub use call::plan_text;
-pub use total::TextPlan;

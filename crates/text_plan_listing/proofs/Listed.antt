@@ -5,11 +5,10 @@ use mathlib.Core.List.{List, [], ◌∷◌}
 use native.Mathlib.Omega.{arith}
 use Rattle.rng.specs.SplitMix64.{state_after}
 use Rattle.outcome.specs.Answer.{number_of, accepted, unless}
-use Rattle.outcome.specs.declared.answer.Outcome.{Outcome}
-use Rattle.outcome.specs.declared.answer.Outcome.TheVariants as outcomes
+use Rattle.outcome.specs.Outcome.{Outcome}
 use Rattle.outcome.specs.declared.answer.Refusal.{Refusal}
-use Rattle.outcome.specs.declared.answer.Verdict.{Verdict}
-use Rattle.outcome.specs.declared.answer.Verdict.TheVariants.{Fine, Refuse}
+use Rattle.outcome.specs.Outcome.{Verdict}
+use Rattle.std.specs.Prelude.{Ok, Err, Result}
 use Rattle.score.specs.Score.{Score, score_draws}
 use Rattle.score.specs.Refusals.{refusal_at}
 use Rattle.score_contract.specs.Frames.{score_frames}
@@ -27,19 +26,17 @@ use Rattle.text_judge.proofs.Refused.{Unrefused, unrefused_read}
 use Rattle.text.specs.Listing.{shown, shown_one, listing}
 use Rattle.text.proofs.Refused.{refused_line, past_line}
 use Rattle.text_plan.specs.TextPlan.{plan_said, plan_of_text, plan_read, text_plan}
-use Rattle.text_plan.specs.declared.total.TextPlan.{TextPlan}
-use Rattle.text_plan.specs.declared.total.TextPlan.TheVariants.{Refused}
 use Rattle.text_plan.proofs.Ready.{Ready}
 
 -- ---- what the one call of a text shows
 module _ (seed d : ℕ) (s : Score) where
-  shown_refused : (r : Refusal) → refusal_at s d ≡ Refuse r → shown seed (tally seed d (s ∷ [])) ≡ printed_r (number_of r)
+  shown_refused : (r : Refusal) → refusal_at s d ≡ Err r → shown seed (tally seed d (s ∷ [])) ≡ printed_r (number_of r)
   unfolding tally tallied
   shown_refused r e = ap (λ (v : Verdict).
       let one = unless v (accepted (score_draws s) (all_taken seed s d).frames) in
       shown_one seed (new_draw one d (all_taken seed s d).x) (one ∷ [])) e
 
-  shown_played : refusal_at s d ≡ Fine → shown seed (tally seed d (s ∷ [])) ≡ listing_of (state_after seed (d + score_draws s)) (d + score_draws s) (score_frames s seed d)
+  shown_played : refusal_at s d ≡ Ok tt → shown seed (tally seed d (s ∷ [])) ≡ listing_of (state_after seed (d + score_draws s)) (d + score_draws s) (score_frames s seed d)
   unfolding tally tallied
   shown_played e =
       ap (λ (v : Verdict).
@@ -48,32 +45,32 @@ module _ (seed d : ℕ) (s : Score) where
       ∙ ap (λ (t : Taken). listing_of (state_after seed t.x) t.x t.frames) (taken_whole seed d s e)
 
 -- ---- a refused plan
-refused_by : (x : TextScore) (o : Outcome) {n : ℕ} → plan_said x o ≡ Refused n → (r : Refusal) → o ≡ outcomes.Refused r → n ≡ number_of r
-refused_by x o {n} e r is = let both : Refused n ≡ Refused (number_of r) = sym e ∙ ap (plan_said x) is in cc
+refused_by : (x : TextScore) (o : Outcome) {n : ℕ} → plan_said x o ≡ Err n → (r : Refusal) → o ≡ Err r → n ≡ number_of r
+refused_by x o {n} e r is = let both : Err n ≡ Err (number_of r) = sym e ∙ ap (plan_said x) is in cc
 
 pub record RefusedBy (o : Outcome) (n : ℕ) : Type 0 where
   pub why : Refusal
-  pub is : o ≡ outcomes.Refused why
+  pub is : o ≡ Err why
   pub number : n ≡ number_of why
 
-said_refused : (x : TextScore) (o : Outcome) {n : ℕ} → plan_said x o ≡ Refused n → RefusedBy o n
-said_refused x (outcomes.Played d) e = absurd (let z : ◌≡◌ {A = ℕ} 0 1 = cc in omega arith)
-said_refused x (outcomes.Refused r) e = record { why = r; is = refl; number = refused_by x (outcomes.Refused r) e r refl }
+said_refused : (x : TextScore) (o : Outcome) {n : ℕ} → plan_said x o ≡ Err n → RefusedBy o n
+said_refused x (Ok d) e = absurd (let z : ◌≡◌ {A = ℕ} 0 1 = cc in omega arith)
+said_refused x (Err r) e = record { why = r; is = refl; number = refused_by x (Err r) e r refl }
 
-verdict_by : (v : Verdict) (t : ℕ) (r : Refusal) → outcome_of v t ≡ outcomes.Refused r → v ≡ Refuse r
-verdict_by Fine t r e = cc
-verdict_by (Refuse x) t r e = let same : x ≡ r = cc in ap Refuse same
+verdict_by : (v : Verdict) (t : ℕ) (r : Refusal) → outcome_of v t ≡ Err r → v ≡ Err r
+verdict_by (Ok _) t r e = cc
+verdict_by (Err x) t r e = let same : x ≡ r = cc in ap Err same
 
-refused_at : (s : Score) → s.n ≤ s.room → 9600 ≤ s.string → (seed d : ℕ) (r : Refusal) → plan_on (session_at seed d) 0 s ≡ outcomes.Refused r → refusal_at s d ≡ Refuse r
+refused_at : (s : Score) → s.n ≤ s.room → 9600 ≤ s.string → (seed d : ℕ) (r : Refusal) → plan_on (session_at seed d) 0 s ≡ Err r → refusal_at s d ≡ Err r
 unfolding plan_on planned_at
 refused_at s room string seed d r e = sym (refused_alike_at s room string d) ∙ verdict_by (plan_refusal_at s d) (planned_draws s) r e
 
-number_by : (n k : ℕ) (p : TextPlan) → unless_refused Refused (suc k) p ≡ Refused n → suc k ≡ n
+number_by : (n k : ℕ) (p : Result (TextScore × ℕ) ℕ) → unless_refused Err (suc k) p ≡ Err n → suc k ≡ n
 number_by n k p e = cc
 
 module _ (text : List ℕ) where
   -- past 16, 15 and 16
-  listed_past : (n : ℕ) → text_refusal text ≡ 0 → (u : Unrefused text) → plan_of_text u.said ≡ Refused n → listing text ≡ printed_r n
+  listed_past : (n : ℕ) → text_refusal text ≡ 0 → (u : Unrefused text) → plan_of_text u.said ≡ Err n → listing text ≡ printed_r n
   unfolding plan_of_text
   listed_past n none u e =
       let t = u.said in
@@ -84,11 +81,11 @@ module _ (text : List ℕ) where
       past_line text none u.is ∙ shown_refused t.seed t.draw s by.why (refused_at s room string t.seed t.draw by.why by.is) ∙ ap printed_r (sym by.number)
 
   -- THE THEOREM: a plan is refused with the number of the R line
-  pub refused_listing : (n : ℕ) → text_plan text ≡ Refused n → listing text ≡ printed_r n
+  pub refused_listing : (n : ℕ) → text_plan text ≡ Err n → listing text ≡ printed_r n
   unfolding text_plan
   refused_listing n e = by (text_refusal text) refl e
     where
-      by : (k : ℕ) → text_refusal text ≡ k → unless_refused Refused k (plan_read (text_of text)) ≡ Refused n → listing text ≡ printed_r n
+      by : (k : ℕ) → text_refusal text ≡ k → unless_refused Err k (plan_read (text_of text)) ≡ Err n → listing text ≡ printed_r n
       by zero none e = let u = unrefused_read text none in listed_past n none u (rw u.is at e)
       by (suc k) is e = refused_line text k is ∙ ap printed_r (number_by n k (plan_read (text_of text)) e)
 

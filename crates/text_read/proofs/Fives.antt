@@ -14,7 +14,7 @@ made_five : (x : Read (List ℕ)) (gain : List ℕ → ℕ) {ws r : List ℕ} �
 made_five (got us rest) gain {ws} {r} e = let z : words_of us (gain us) ≡ ws = cc in ap length (sym z)
 made_five broken gain e = broken_got e
 
-note_five : (s : List ℕ) {ws r : List ℕ} → line_n s ≡ got ws r → length ws ≡ 5
+pub note_five : (s : List ℕ) {ws r : List ℕ} → line_n s ≡ got ws r → length ws ≡ 5
 unfolding line_n
 note_five s e = or_else _ _ (λ p. made_five (line 78 form_n s) (λ vs. get_or vs 3 0) p) (λ p. made_five (line 78 form_short s) (λ _. short_gain) p) e
 

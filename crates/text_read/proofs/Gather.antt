@@ -1,25 +1,23 @@
 -- Use for the two loops over the notes, the one that judges and the one that stores, whose invariants are `Gathered` and `Storing`. Assumes nothing.
-use Prim.Native.Nat.{ℕ, suc, ◌+◌, ◌*◌, ◌/◌, ◌≤◌, ◌<◌}
+use Prim.Native.Nat.{ℕ, ◌+◌, ◌-◌, ◌*◌, ◌/◌, ◌≤◌, ◌<◌}
 use mathlib.Core.Path.{◌≡◌, refl, sym, ap, ◌∙◌}
 use mathlib.Core.List.{List, [], ◌∷◌, ◌++◌, append-nil, append_assoc}
 use native.Mathlib.Omega.{arith}
 use borrow.Author.Tests.{lt-ltb, le-ltb}
-use lib.ListN.{length, take, drop, set, get_or, length-append, drop_of_length-le}
-use lib.Seq.{sets-eq, take_at, drop-append-add, drop-drop}
+use lib.ListN.{length, take, drop, get_or, length-append, drop_of_length-le}
+use borrow.Rule.Slice.PartMut.{put_mid}
+use lib.Seq.{take_at, drop-append-add, drop-drop}
+use Rattle.std.specs.Prelude.{Option, Some, None}
 use Rattle.text_digits.specs.Read.{Read, got, broken}
+use Rattle.text_digits.specs.Answers.{value_in}
 use Rattle.laws.proofs.If.{if_true, if_false}
 use Rattle.text_lines.specs.Line.{before, stored_in, line}
 use Rattle.text_read.specs.Notes.{line_n, notes_of, either_form, words_of, form_n, form_short, short_gain, count_of, counted, words_after, Noted, Fitting}
-use Rattle.text_read.specs.Answers.{note_read}
-use Rattle.text_read.specs.declared.notes.LineN.{LineN}
-use Rattle.text_read.specs.declared.notes.LineN.TheVariants as lines_n
-use Rattle.text_read.specs.declared.notes.Count.{Count}
-use Rattle.text_read.specs.declared.notes.Count.TheVariants.{Lines, Broken}
 use Rattle.text_digits.proofs.Reading.{head}
 use Rattle.text_lines.proofs.Forms.{broken_got, got_value}
 use Rattle.text_lines.proofs.Reading.{before_none, before_before, before_broken}
 use Rattle.text_read.proofs.Shorter.{notes_none, notes_line}
-use Rattle.text_read.proofs.Fives.{notes_five}
+use Rattle.text_read.proofs.Fives.{note_five, notes_five}
 
 -- a line that was read into an array of as many values
 whole : (l : List ℕ) → words_of l (get_or l 3 0) ≡ words_of (take 4 l) (get_or (take 4 l) 3 0)
@@ -48,14 +46,9 @@ pub note_none : (x : List ℕ) → broken ≡ line 78 form_n x → broken ≡ li
 unfolding line_n either_form
 note_none x d e = rw (← d, ← e)
 
--- five stores, one after another
-pub stored : (l : List ℕ) (i a b c d e : ℕ) → i + 5 ≤ length l → set (set (set (set (set l i a) (i + 1) b) (i + 2) c) (i + 3) d) (i + 4) e ≡ take i l ++ ((a ∷ b ∷ c ∷ d ∷ e ∷ []) ++ drop (i + 5) l)
-stored l i a b c d e h =
-    let z1 : i + 1 ≡ suc i = omega arith in
-    let z2 : i + 2 ≡ suc (suc i) = omega arith in
-    let z3 : i + 3 ≡ suc (suc (suc i)) = omega arith in
-    let z4 : i + 4 ≡ suc (suc (suc (suc i))) = omega arith in
-    rw (z1, z2, z3, z4) (sets-eq (a ∷ b ∷ c ∷ d ∷ e ∷ []) l i h ∙ append_assoc (take i l) (a ∷ b ∷ c ∷ d ∷ e ∷ []) (drop (i + 5) l))
+-- the words of a note, copied to their place
+pub stored : (l : List ℕ) (i : ℕ) {v w : List ℕ} → w ≡ v → put_mid i (i + 5 - i) l w ≡ take i l ++ (v ++ drop (i + 5) l)
+stored l i e = let z : i + (i + 5 - i) ≡ i + 5 = omega arith in rw (e, drop-drop (i + 5 - i) i l, z)
 
 -- Before line n, at the place `at`: the words of the lines so far, and that the rest is read on from here. Each line is a byte at least, so that n stays below the number of bytes.
 pub record Gathered (s : List ℕ) (start at n : ℕ) : Type 0 where
@@ -78,25 +71,24 @@ module _ {s : List ℕ} {start at n : ℕ} (g : Gathered s start at n) where
   unfolding before
   gathered_all h = rw (drop_of_length-le s h, notes_none, append-nil) at g.ahead
 
-  pub gathered_count : length s ≤ at → Lines n ≡ counted (notes_of (drop start s))
-  gathered_count h = let z : n ≡ length g.ws / 5 = omega (arith, g.five) in rw (← (gathered_all h)) (ap Lines z)
+  pub gathered_count : length s ≤ at → Some n ≡ counted (notes_of (drop start s))
+  gathered_count h = let z : n ≡ length g.ws / 5 = omega (arith, g.five) in rw (← (gathered_all h)) (ap Some z)
 
-  module _ {r : LineN} (lt : at < length s) (e : note_read s r ≡ line_n (drop at s)) where
-    pub gathered_bad : r ≡ lines_n.Broken → broken ≡ notes_of (drop start s)
+  module _ {r : Option (List ℕ × ℕ)} (lt : at < length s) (e : value_in s r ≡ line_n (drop at s)) where
+    pub gathered_bad : r ≡ None → broken ≡ notes_of (drop start s)
     gathered_bad told =
         let d : broken ≡ line_n (get_or s at 0 ∷ drop (at + 1) s) = rw (told, head s at lt) at e in
         before_broken g.ws ∙ rw (head s at lt, notes_line, ← d) at g.ahead
 
-    module _ {a b p q next : ℕ} (told : r ≡ lines_n.At a b p q next) (later : at < next) where
+    module _ {v : List ℕ} {next : ℕ} (told : r ≡ Some (v, next)) (later : at < next) where
       pub gathered_more : Gathered s start next (n + 1)
       gathered_more =
-          let v = a ∷ b ∷ 0 ∷ p ∷ q ∷ [] in
           let d : got v (drop next s) ≡ line_n (get_or s at 0 ∷ drop (at + 1) s) = rw (told, head s at lt) at e in
           record {
             ws = g.ws ++ v;
             ahead = before_before g.ws v (notes_of (drop next s)) ∙ (rw (head s at lt, notes_line, ← d) at g.ahead);
             few = omega (arith, g.few);
-            five = length-append g.ws v ∙ omega (arith, g.five);
+            five = length-append g.ws v ∙ omega (arith, g.five, note_five _ (sym d));
           }
 
 -- The same while words are stored that fit.
@@ -125,12 +117,12 @@ module _ {s : List ℕ} {start : ℕ} {words₀ words : List ℕ} {at n : ℕ} (
       let l : length w ≤ length words₀ = rw z g.fits.room in
       rw (← all) (if_false words₀ (le-ltb (length words₀) (length w) l) g.held)
 
-  module _ {r : LineN} (lt : at < length s) (e : note_read s r ≡ line_n (drop at s)) where
+  module _ {r : Option (List ℕ × ℕ)} (lt : at < length s) (e : value_in s r ≡ line_n (drop at s)) where
     -- lines that were judged do not break
-    pub storing_bad : {P : Type 0} → r ≡ lines_n.Broken → P
+    pub storing_bad : {P : Type 0} → r ≡ None → P
     storing_bad told = broken_got (gathered_bad g.gathered lt e told ∙ g.fits.is)
 
-    module _ {a b p q next : ℕ} (told : r ≡ lines_n.At a b p q next) (later : at < next) where
+    module _ {v : List ℕ} {next : ℕ} (told : r ≡ Some (v, next)) (later : at < next) where
       pub storing_room : n * 5 + 5 ≤ length words
       storing_room =
           let more = gathered_more g.gathered lt e told later in
@@ -138,10 +130,10 @@ module _ {s : List ℕ} {start : ℕ} {words₀ words : List ℕ} {at n : ℕ} (
           omega (arith, more.five, g.fits.room, g.same)
 
       pub storing_more : {words₁ : List ℕ} → length words₁ ≡ length words
-          → words₁ ≡ take (n * 5) words ++ ((a ∷ b ∷ 0 ∷ p ∷ q ∷ []) ++ drop (n * 5 + 5) words) → Storing s start words₀ words₁ next (n + 1)
+          → words₁ ≡ take (n * 5) words ++ (v ++ drop (n * 5 + 5) words) → Storing s start words₀ words₁ next (n + 1)
       unfolding gathered_more
       storing_more {words₁} m f =
-          let v = a ∷ b ∷ 0 ∷ p ∷ q ∷ [] in
+          let o5 : length v ≡ 5 = note_five _ (sym (rw told at e)) in
           let w = g.gathered.ws in
           let five : length w ≡ n * 5 = g.gathered.five in
           let l : length (w ++ v) ≡ n * 5 + 5 = length-append w v ∙ omega arith in
@@ -158,35 +150,35 @@ module _ {s : List ℕ} {start : ℕ} {words₀ words : List ℕ} {at n : ℕ} (
           }
 
 -- ---- the reader of notes: whether they are of the form and fit is known before any is stored
-told_lines : (x : Read (List ℕ)) {n : ℕ} (words : List ℕ) → Lines n ≡ counted x → ((ws r : List ℕ) → x ≡ got ws r → length ws ≡ count_of ws * 5) → n ≤ length words / 5 → Fitting x words
+told_lines : (x : Read (List ℕ)) {n : ℕ} (words : List ℕ) → Some n ≡ counted x → ((ws r : List ℕ) → x ≡ got ws r → length ws ≡ count_of ws * 5) → n ≤ length words / 5 → Fitting x words
 told_lines (got ws r) {n} words e five h =
     let z : n ≡ count_of ws = cc in
     record { ws = ws; rest = r; is = refl; room = omega (arith, five ws r refl) }
 told_lines broken {n} words e five h = let z : ◌≡◌ {A = ℕ} 0 1 = cc in absurd (omega arith)
 
-told_many : (x : Read (List ℕ)) {n : ℕ} (words : List ℕ) → Lines n ≡ counted x → ((ws r : List ℕ) → x ≡ got ws r → length ws ≡ count_of ws * 5) → length words / 5 < n → words ≡ words_after x words
+told_many : (x : Read (List ℕ)) {n : ℕ} (words : List ℕ) → Some n ≡ counted x → ((ws r : List ℕ) → x ≡ got ws r → length ws ≡ count_of ws * 5) → length words / 5 < n → words ≡ words_after x words
 told_many (got ws r) {n} words e five h =
     let z : n ≡ count_of ws = cc in
     if_true (stored_in ws words) (lt-ltb (length words) (length ws) (omega (arith, five ws r refl))) refl
 told_many broken {n} words e five h = refl
 
-told_broken : (x : Read (List ℕ)) (words : List ℕ) → Broken ≡ counted x → words ≡ words_after x words
+told_broken : (x : Read (List ℕ)) (words : List ℕ) → None ≡ counted x → words ≡ words_after x words
 told_broken (got ws r) words e = let z : ◌≡◌ {A = ℕ} 0 1 = cc in absurd (omega arith)
 told_broken broken words e = refl
 
-module _ (s : List ℕ) {r : Count} (words : List ℕ) (is : r ≡ counted (notes_of s)) where
-  pub noted_broken : r ≡ Broken → Noted (notes_of s) words Broken words
+module _ (s : List ℕ) {r : Option ℕ} (words : List ℕ) (is : r ≡ counted (notes_of s)) where
+  pub noted_broken : r ≡ None → Noted (notes_of s) words None words
   noted_broken told = let e = rw told at is in record { count = e; stored = told_broken (notes_of s) words e }
 
-  module _ {n : ℕ} (told : r ≡ Lines n) where
-    lines : Lines n ≡ counted (notes_of s)
+  module _ {n : ℕ} (told : r ≡ Some n) where
+    lines : Some n ≡ counted (notes_of s)
     lines = rw told at is
 
-    pub noted_many : length words / 5 < n → Noted (notes_of s) words (Lines n) words
+    pub noted_many : length words / 5 < n → Noted (notes_of s) words (Some n) words
     noted_many h = record { count = lines; stored = told_many (notes_of s) words lines (λ ws r e. notes_five s e) h }
 
     pub noted_fitting : n ≤ length words / 5 → Fitting (notes_of s) words
     noted_fitting h = told_lines (notes_of s) words lines (λ ws r e. notes_five s e) h
 
-    pub noted_stored : {words₁ : List ℕ} → words₁ ≡ words_after (notes_of s) words → Noted (notes_of s) words (Lines n) words₁
+    pub noted_stored : {words₁ : List ℕ} → words₁ ≡ words_after (notes_of s) words → Noted (notes_of s) words (Some n) words₁
     noted_stored e = record { count = lines; stored = e }

@@ -6,6 +6,7 @@ use native.Mathlib.Omega.{arith}
 use borrow.Author.Tests.{le-ltb}
 use lib.ListN.{length, take, drop}
 use lib.Seq.{take_at}
+use Rattle.std.specs.Prelude.{Option, Some, None}
 use Rattle.text_digits.specs.Read.{Read, got, broken}
 use Rattle.text_lines.specs.Line.{stored_in, line_s, line_g, line_e}
 use Rattle.text_lines.proofs.Forms.{parted, got_value}
@@ -14,8 +15,6 @@ use Rattle.text_read.specs.Notes.{notes_of, count_of, words_after}
 use Rattle.text_read.proofs.Fives.{notes_five}
 use Rattle.text_read.specs.Text.{Text, text_of, text_score_of, parsed_of, notes_read, Parses}
 use Rattle.text_read.specs.declared.text.TextScore.{TextScore}
-use Rattle.text_read.specs.declared.text.Parsed.{Parsed}
-use Rattle.text_read.specs.declared.text.Parsed.TheVariants.{Score, Broken}
 
 -- the text that was read, which the score x is of
 pub record Said (x : TextScore) (read : Read Text) (words₀ words : List ℕ) : Type 0 where
@@ -25,19 +24,19 @@ pub record Said (x : TextScore) (read : Read Text) (words₀ words : List ℕ) :
   pub score : x ≡ text_score_of text
   pub stored : words ≡ words_after (got text.notes rest) words₀
 
-said : (read : Read Text) (words₀ words : List ℕ) {x : TextScore} → Score x ≡ parsed_of read → words ≡ words_after (notes_read read) words₀ → Said x read words₀ words
+said : (read : Read Text) (words₀ words : List ℕ) {x : TextScore} → Some x ≡ parsed_of read → words ≡ words_after (notes_read read) words₀ → Said x read words₀ words
 said (got t rest) words₀ words {x} e h = record { text = t; rest = rest; is = refl; score = cc; stored = h }
 said broken words₀ words {x} e h = let z : ◌≡◌ {A = ℕ} 0 1 = cc in absurd (omega arith)
 
-broke : (read : Read Text) → Broken ≡ parsed_of read → read ≡ broken
+broke : (read : Read Text) → None ≡ parsed_of read → read ≡ broken
 broke (got t rest) e = let z : ◌≡◌ {A = ℕ} 0 1 = cc in absurd (omega arith)
 broke broken e = refl
 
-module _ {text words₀ words : List ℕ} {r : Parsed} (h : Parses text words₀ r words) where
-  pub parsed_broken : r ≡ Broken → text_of text ≡ broken
+module _ {text words₀ words : List ℕ} {r : Option TextScore} (h : Parses text words₀ r words) where
+  pub parsed_broken : r ≡ None → text_of text ≡ broken
   parsed_broken told = broke (text_of text) (rw told at h.answer)
 
-  pub parsed_score : {x : TextScore} → r ≡ Score x → Said x (text_of text) words₀ words
+  pub parsed_score : {x : TextScore} → r ≡ Some x → Said x (text_of text) words₀ words
   parsed_score told = said (text_of text) words₀ words (rw told at h.answer) h.words
 
 five_of : (text : List ℕ) {t : Text} {rest : List ℕ} → text_of text ≡ got t rest → length t.notes ≡ count_of t.notes * 5

@@ -9,9 +9,8 @@ use lib.Dec.{ltb, leb, eqb}
 use Rattle.text_digits.specs.Read.{Read, got, broken, after, digit_of, byte, hex_from, digits_from, fitting, decimal}
 use Rattle.text_lines.specs.Line.{value, field, fields, before, ending, line}
 use Rattle.text_read.specs.Notes.{line_n, notes_up_to, notes_of, either_form, words_of, form_n, form_short, short_gain}
-use Rattle.text_read.specs.Answers.{note_read}
-use Rattle.text_read.specs.declared.notes.LineN.{LineN}
-use Rattle.text_read.specs.declared.notes.LineN.TheVariants.{At}
+use Rattle.std.specs.Prelude.{Option, Some}
+use Rattle.text_digits.specs.Answers.{value_in}
 use Rattle.text_lines.proofs.Forms.{broken_got, test_picked, either, parted, after_same}
 
 -- the bytes that were left are those that are
@@ -137,8 +136,8 @@ notes_line b s =
     after_same (line_n (b ∷ s)) (λ ws rest. before ws (notes_up_to (length s) rest)) (λ ws rest. before ws (notes_up_to (length rest) rest))
     (λ ws rest e. let m = note_shorter (b ∷ s) e in ap (before ws) (enough (length s) (length rest) rest (omega arith) (omega arith)))
 
-pub note_later : (s : List ℕ) (at : ℕ) {r : LineN} {a b p q next : ℕ} → r ≡ At a b p q next → note_read s r ≡ line_n (drop at s) → length s - next < length s - at
-note_later s at {r} {a} {b} {p} {q} {next} told e =
+pub note_later : (s : List ℕ) (at : ℕ) {r : Option (List ℕ × ℕ)} {v : List ℕ} {next : ℕ} → r ≡ Some (v, next) → value_in s r ≡ line_n (drop at s) → length s - next < length s - at
+note_later s at {r} {v} {next} told e =
     let l = note_shorter (drop at s) (sym (rw told at e)) in
     let m = length-drop at s in
     let n = length-drop next s in

@@ -1,3 +1,2 @@
 pub mod Notes
 pub mod Text
-pub mod Answers

@@ -1,9 +1,7 @@
 -- The lines N: "then N step len pitch gain, none or more such lines, each of which may stop after pitch"; "A line N that stops after the pitch now means gain 0.5, bits 3f000000" (02, Card 5).
-use Rattle.std.specs.Prelude.{ℕ, zero, suc, ◌/◌, ◌≤◌, ◌≡◌, List, [], ◌∷◌, cond, length, get_or, ltb}
+use Rattle.std.specs.Prelude.{ℕ, zero, suc, ◌/◌, ◌≤◌, ◌≡◌, List, [], ◌∷◌, Option, Some, None, cond, length, get_or, ltb}
 use Rattle.text_digits.specs.Read.{Read, got, broken, after}
 use Rattle.text_lines.specs.Line.{float, word, line, before, stored_in}
-use Rattle.text_read.specs.declared.notes.Count.{Count}
-use Rattle.text_read.specs.declared.notes.Count.TheVariants.{Lines, Broken}
 
 abbrev pub form_n : List ℕ
 form_n = word ∷ word ∷ float ∷ float ∷ []
@@ -44,9 +42,9 @@ notes_of s = notes_up_to (length s) s
 abbrev pub count_of : List ℕ → ℕ
 count_of ws = length ws / 5
 
-abbrev pub counted : Read (List ℕ) → Count
-counted (got ws rest) = Lines (count_of ws)
-counted broken = Broken
+abbrev pub counted : Read (List ℕ) → Option ℕ
+counted (got ws rest) = Some (count_of ws)
+counted broken = None
 
 -- What a lent slice holds after a reader of notes: their words at its start, and after them what it held. Where they do not fit, or the form is broken, nothing changes.
 abbrev pub words_after : Read (List ℕ) → List ℕ → List ℕ
@@ -54,7 +52,7 @@ words_after (got ws rest) words₀ = cond (ltb (length words₀) (length ws)) wo
 words_after broken words₀ = words₀
 
 -- The contract of a reader of notes that is lent `words₀` and leaves `words`.
-pub record Noted (notes : Read (List ℕ)) (words₀ : List ℕ) (answer : Count) (words : List ℕ) : Type 0 where
+pub record Noted (notes : Read (List ℕ)) (words₀ : List ℕ) (answer : Option ℕ) (words : List ℕ) : Type 0 where
   pub count : answer ≡ counted notes
   pub stored : words ≡ words_after notes words₀
 

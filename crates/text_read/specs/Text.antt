@@ -1,5 +1,5 @@
 -- The whole text score.
-use Rattle.std.specs.Prelude.{ℕ, ◌≡◌, List}
+use Rattle.std.specs.Prelude.{ℕ, ◌≡◌, List, Option, Some, None}
 use Rattle.dsl.specs.declared.knobs.Adsr.{Adsr}
 use Rattle.score.specs.declared.seq.Seq.{Seq}
 use Rattle.text_digits.specs.Read.{Read, got, broken, after}
@@ -9,9 +9,7 @@ use Rattle.text_read.specs.Notes.{notes_of, count_of, words_after}
 use Rattle.text_lines.specs.declared.Numbers.{Numbers}
 use Rattle.text_voice_line.specs.declared.Sound.{Sound}
 use Rattle.text_read.specs.declared.text.TextScore.{TextScore}
-use Rattle.text_read.specs.declared.text.Parsed.{Parsed}
 use Rattle.tempo.specs.Map.{no_map}
-use Rattle.text_read.specs.declared.text.Parsed.TheVariants.{Score, Broken}
 
 -- What a text score says: a score call's numbers with the length n of its output, envelope and voice, the seed and the draw that open its session, and the note words.
 pub record Text : Type 0 where
@@ -49,15 +47,15 @@ text_of s =
 abbrev pub text_score_of : Text → TextScore
 text_score_of t = record { numbers = t.numbers; env = t.env; sound = t.sound; seed = t.seed; draw = t.draw; count = count_of t.notes }
 
-abbrev pub parsed_of : Read Text → Parsed
-parsed_of (got t rest) = Score (text_score_of t)
-parsed_of broken = Broken
+abbrev pub parsed_of : Read Text → Option TextScore
+parsed_of (got t rest) = Some (text_score_of t)
+parsed_of broken = None
 
 abbrev pub notes_read : Read Text → Read (List ℕ)
 notes_read (got t rest) = got t.notes rest
 notes_read broken = broken
 
 -- The contract of a reader of the text that is lent `notes₀` and leaves `notes`.
-pub record Parses (text notes₀ : List ℕ) (parsed : Parsed) (notes : List ℕ) : Type 0 where
+pub record Parses (text notes₀ : List ℕ) (parsed : Option TextScore) (notes : List ℕ) : Type 0 where
   pub answer : parsed ≡ parsed_of (text_of text)
   pub words : notes ≡ words_after (notes_read (text_of text)) notes₀

@@ -4,4 +4,4 @@
 mod notes; // notes.rt: the lines N
 mod text; // text.rt: the whole text
 
-pub use text::{Parsed, TextScore, read_score};
+pub use text::{TextScore, read_score};

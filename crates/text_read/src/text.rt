@@ -2,12 +2,12 @@
 ghost use Rattle.std.specs.Prelude.{◌≡◌};
 ghost use Rattle.text_read.specs.Text.{seq_of, Parses};
 
-use crate::notes::{Count, notes};
+use crate::notes::notes;
 use dsl::Adsr;
 use score::{Seq, Timing};
 use tempo::TempoMap;
-use text_lines::{LineE, LineG, LineS, Numbers, line_e, line_g, line_s};
-use text_voice_line::{LineV, Sound, line_v};
+use text_lines::{Numbers, line_e, line_g, line_s};
+use text_voice_line::{Sound, line_v};
 
 // What the lines S, G, E and V say, and how many notes there are, whose words stand in a lent slice.
 #[derive(Clone, Copy)]
@@ -47,34 +47,18 @@ impl TextScore {
     }
 }
 
-#[derive(Clone, Copy)]
-pub enum Parsed {
-    Score(TextScore),
-    Broken,
-}
-
 // Reads the whole of `text`, and stores the words of its notes, five a note, at the start of `words`.
 // Where they do not fit, or the text is not of the form, no word changes; the form of every line is
 // judged all the same.
-pub fn read_score(text: &[u8], words: &mut [u32]) -> Parsed
+pub fn read_score(text: &[u8], words: &mut [u32]) -> Option<TextScore>
     ensures { Parses text.now words.old result words.new }
 {
-    let LineS::At(numbers, a) = line_s(text, 0) else {
-        return Parsed::Broken;
-    };
-    let LineG::At(opening, b) = line_g(text, a) else {
-        return Parsed::Broken;
-    };
-    let LineE::At(env, c) = line_e(text, b) else {
-        return Parsed::Broken;
-    };
-    let LineV::At(sound, d) = line_v(text, c) else {
-        return Parsed::Broken;
-    };
-    let Count::Lines(count) = notes(text, d, words) else {
-        return Parsed::Broken;
-    };
-    Parsed::Score(TextScore {
+    let (numbers, a) = line_s(text, 0)?;
+    let (opening, b) = line_g(text, a)?;
+    let (env, c) = line_e(text, b)?;
+    let (sound, d) = line_v(text, c)?;
+    let count = notes(text, d, words)?;
+    Some(TextScore {
         numbers,
         env,
         sound,

@@ -2,7 +2,7 @@
 #![tactic(auto)]
 
 mod answer; // answer.rt: a score call's answer, printed
-mod reply; // reply.rt: the listing's length, or that it did not fit
+mod reply; // reply.rt: the number that C gets
 
 pub use answer::{reply_answer, reply_frames, reply_refusal};
-pub use reply::Reply;
+pub use reply::reply_as_i64;

@@ -7,8 +7,8 @@ use native.Mathlib.Omega.{arith}
 use borrow.Author.Tests.{le-ltb, ltb-false}
 use lib.Dec.{ltb}
 use lib.ListN.{length}
-use Rattle.outcome.specs.declared.answer.Verdict.{Verdict}
-use Rattle.outcome.specs.declared.answer.Verdict.TheVariants.{Fine, Refuse}
+use Rattle.outcome.specs.Outcome.{Verdict}
+use Rattle.std.specs.Prelude.{Ok, Err, Result}
 use Rattle.score.specs.Score.{Score, note_count}
 use Rattle.score.specs.Refusals.{refusal_at}
 use Rattle.cue_pages.specs.Sheet.{sheet_of}
@@ -20,11 +20,9 @@ use Rattle.text_judge.specs.Refusal.{text_refusal, unless_refused}
 use Rattle.text_judge.proofs.Refused.{unrefused_read}
 use Rattle.text_judge.proofs.Unless.{unless_same}
 use Rattle.text_sheet.specs.TextSheet.{SheetResult, refused, accepted, sheet_fitting, sheet_unless, score_sheet, sheet_read, text_sheet, answer_of, SheetPrinted}
-use Rattle.text_sheet.specs.declared.sheet.Sheet.{Sheet}
-use Rattle.text_sheet.specs.declared.sheet.Sheet.TheVariants.{Bytes}
 
 -- the sheet of an accepted score of at most 256 notes
-score_most : (s : Score) (d : ℕ) → note_count s ≤ 256 → refusal_at s d ≡ Fine → length (sheet_of s d) ≤ 18692
+score_most : (s : Score) (d : ℕ) → note_count s ≤ 256 → refusal_at s d ≡ Ok tt → length (sheet_of s d) ≤ 18692
 score_most s d few fine =
     let l = sheet_is_long s d fine (omega arith) in
     let m = longest (note_count s) few in
@@ -39,9 +37,9 @@ whole_read (got t rest) = let s = call_of (seq_in t) t.notes t.numbers.n in shee
 unfoldable pub whole_sheet : List ℕ → SheetResult
 whole_sheet text = unless_refused refused (text_refusal text) (whole_read (text_of text))
 
-fitting_by : (v : Verdict) (room : ℕ) (sheet : List ℕ) → (v ≡ Fine → length sheet ≤ room) → sheet_unless v (sheet_fitting room sheet) ≡ sheet_unless v (accepted sheet)
-fitting_by Fine room sheet f = rw (le-ltb room (length sheet) (f refl))
-fitting_by (Refuse r) room sheet f = refl
+fitting_by : (v : Verdict) (room : ℕ) (sheet : List ℕ) → (v ≡ Ok tt → length sheet ≤ room) → sheet_unless v (sheet_fitting room sheet) ≡ sheet_unless v (accepted sheet)
+fitting_by (Ok _) room sheet f = rw (le-ltb room (length sheet) (f refl))
+fitting_by (Err r) room sheet f = refl
 
 -- THE LAW: no sheet is longer, so that 34 never refuses such a page
 pub never_short : (text : List ℕ) (room : ℕ) → 18692 ≤ room → text_sheet text room ≡ whole_sheet text
@@ -71,8 +69,8 @@ fitting_within room s = by (ltb room (length s)) refl
         omega arith
 
 unless_within : (v : Verdict) (room : ℕ) (r : SheetResult) → Within room r → Within room (sheet_unless v r)
-unless_within Fine room r h = h
-unless_within (Refuse why) room r h = refused_within room _
+unless_within (Ok _) room r h = h
+unless_within (Err why) room r h = refused_within room _
 
 read_within : (room : ℕ) (x : Read Text) → Within room (sheet_read room x)
 unfolding score_sheet
@@ -89,12 +87,12 @@ text_within : (text : List ℕ) (room : ℕ) → Within room (text_sheet text ro
 unfolding text_sheet
 text_within text room = number_within (text_refusal text) room (sheet_read room (text_of text)) (read_within room (text_of text))
 
-bytes_by : (room : ℕ) (r : SheetResult) (n : ℕ) → Within room r → Bytes n ≡ answer_of r → n ≤ room
+bytes_by : (room : ℕ) (r : SheetResult) (n : ℕ) → Within room r → Ok n ≡ answer_of r → n ≤ room
 bytes_by room (refused k) n h e = let z : ◌≡◌ {A = ℕ} 0 1 = cc in absurd (omega arith)
 bytes_by room (accepted sheet) n h e =
     let l = h sheet refl in
     let z : n ≡ length sheet = cc in
     omega arith
 
-pub bytes_within : (text : List ℕ) {page₀ page : List ℕ} {said : Sheet} → SheetPrinted (text_sheet text (length page₀)) page₀ said page → (n : ℕ) → said ≡ Bytes n → n ≤ length page₀
+pub bytes_within : (text : List ℕ) {page₀ page : List ℕ} {said : Result ℕ ℕ} → SheetPrinted (text_sheet text (length page₀)) page₀ said page → (n : ℕ) → said ≡ Ok n → n ≤ length page₀
 bytes_within text {page₀} h n e = bytes_by (length page₀) (text_sheet text (length page₀)) n (text_within text (length page₀)) (sym e ∙ h.answer)

@@ -1,6 +1,5 @@
 // The sheet of what a text says.
-ghost use Rattle.std.specs.Prelude.{◌≡◌, ◌≤◌, length};
-ghost use Rattle.outcome.specs.declared.answer.Verdict.TheVariants.{Fine};
+ghost use Rattle.std.specs.Prelude.{◌≡◌, ◌≤◌, length, Ok};
 ghost use Rattle.score.specs.Refusals.{refusal_at};
 ghost use Rattle.text_read.specs.Text.{seq_of};
 ghost use Rattle.text_judge.specs.Call.{call_of};
@@ -11,17 +10,10 @@ use cue_pages::{put_sheet, sheet_length};
 use score::Lent;
 use text_read::TextScore;
 
-// The sheet's length in bytes, or the number of what refused it.
-#[derive(Clone, Copy)]
-pub enum Sheet {
-    Bytes(usize),
-    Refused(u32),
-}
-
 // Prints the sheet of an accepted score, whose words stand in a lent slice, at the start of `page`; 34
 // where it does not fit.
-pub(crate) fn print_score(score: TextScore, notes: &[u32], page: &mut [u8]) -> Sheet
-    requires draw_value { refusal_at (call_of (seq_of score.numbers score.env score.sound) notes.now score.numbers.n) score.draw ≡ Fine }
+pub(crate) fn print_score(score: TextScore, notes: &[u32], page: &mut [u8]) -> Result<usize, u32>
+    requires draw_value { refusal_at (call_of (seq_of score.numbers score.env score.sound) notes.now score.numbers.n) score.draw ≡ Ok tt }
     requires notes_len_bound { length notes.now ≤ 1280 }
     ensures { SheetPrinted
         (sheet_fitting (length page.old) (sheet_of (call_of (seq_of score.numbers score.env score.sound) notes.now score.numbers.n) score.draw))
@@ -29,7 +21,7 @@ pub(crate) fn print_score(score: TextScore, notes: &[u32], page: &mut [u8]) -> S
 {
     let length = sheet_length(notes.len() / 5);
     if page.len() < length {
-        return Sheet::Refused(34);
+        return Err(34);
     }
     let numbers = score.numbers;
     let lent = Lent {
@@ -40,5 +32,5 @@ pub(crate) fn print_score(score: TextScore, notes: &[u32], page: &mut [u8]) -> S
     let lane = [0.0f32; 1];
     let seq = score.seq();
     let end = put_sheet(page, seq, notes, &lane[..0], lent, score.draw);
-    Sheet::Bytes(end)
+    Ok(end)
 }

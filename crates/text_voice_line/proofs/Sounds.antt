@@ -12,16 +12,22 @@ use Rattle.dsl.specs.Wave.{wave_at}
 use Rattle.dsl.specs.declared.kit.KitStyle.{KitStyle}
 use Rattle.dsl.specs.declared.wave.SeqWave.{SeqWave}
 use Rattle.dsl.specs.declared.wave.SeqWave.TheVariants.{Fm, Pluck, Piano, Organ, Bass, Kit}
-use Rattle.dsl.specs.declared.wave.WaveAt.TheVariants.{Wave}
-use Rattle.text_digits.specs.Read.{got, broken}
+use Rattle.std.specs.Prelude.{Option, Some, None, is_some}
+use Rattle.text_digits.specs.Read.{Read, got, broken}
+use Rattle.text_digits.specs.Answers.{place_in}
 use Rattle.text_lines.specs.Line.{float, field, ending}
-use Rattle.text_voice_line.specs.Voice.{fm_place, pluck_place, piano_place, bass_place, organ_place, kit_place, ends, bar_count, knob_count, style_field, voice_of, sound_of}
+use Rattle.text_voice_line.specs.Voice.{was_read, fm_place, pluck_place, piano_place, bass_place, organ_place, kit_place, ends, bar_count, knob_count, style_field, voice_of, sound_of}
 
 pub knob_waves :
-    (wave_at fm_place ≡ Wave Fm) × (wave_at pluck_place ≡ Wave Pluck) × (wave_at piano_place ≡ Wave Piano) × (wave_at bass_place ≡ Wave Bass) × (wave_at organ_place ≡ Wave Organ)
-    × (wave_at kit_place ≡ Wave Kit)
+    (wave_at fm_place ≡ Some Fm) × (wave_at pluck_place ≡ Some Pluck) × (wave_at piano_place ≡ Some Piano) × (wave_at bass_place ≡ Some Bass) × (wave_at organ_place ≡ Some Organ)
+    × (wave_at kit_place ≡ Some Kit)
 unfolding wave_at
 knob_waves = (refl, refl, refl, refl, refl, refl)
+
+-- what was placed was read
+pub placed_read : (s : List ℕ) (b : ℕ) (r : Option ℕ) {x : Read ℕ} → place_in s b r ≡ x → is_some r ≡ was_read x
+placed_read s b (Some next) e = rw (← e)
+placed_read s b None e = rw (← e)
 
 both_most : (t : Bool) {x y m : ℕ} → x ≤ m → y ≤ m → cond t x y ≤ m
 both_most true h l = h
@@ -58,11 +64,11 @@ module _ (place : ℕ) (ended : Bool) {k : ℕ} (e : k ≡ knob_count place ende
     kinds_written : take k (replicate 10 float) ≡ replicate (knob_count place (ends y)) float
     kinds_written = kinds_are ∙ ap (λ (b : Bool). replicate (knob_count place b) float) o
 
-    pub sound_none : broken ≡ ending (take k (replicate 10 float)) y → broken ≡ sound_of place (Wave w) x
+    pub sound_none : broken ≡ ending (take k (replicate 10 float)) y → broken ≡ sound_of place (Some w) x
     unfolding sound_of
     sound_none h = rw (← d, ← t, ← (rw kinds_written at h))
 
     pub sound_read : (bits : List ℕ) {z : List ℕ} → got (take (length (take k (replicate 10 float))) bits) z ≡ ending (take k (replicate 10 float)) y
-        → got (record { voice = voice_of place w style (take k bits); duty = of_bits binary32 duty }) z ≡ sound_of place (Wave w) x
+        → got (record { voice = voice_of place w style (take k bits); duty = of_bits binary32 duty }) z ≡ sound_of place (Some w) x
     unfolding sound_of
     sound_read bits h = rw (← d, ← t, ← (rw (← kinds_length, kinds_written) at h))

@@ -1,2 +1,1 @@
 pub mod Voice
-pub mod Answers

@@ -1,7 +1,7 @@
 -- The line V: "V wave duty knobs (wave is the place in `SeqWave` from 0, knobs in node.rs order, none for waves that have none; knobs of the sets not written are 0;
 -- .. above 17 break the form)"; the organ's drawbars, "after duty on the V line, ratio before level .. A V line without the ten uses the five pairs of `BARS`" (02, Card 14); and the drum
 -- kit's style: "A V line of wave 16 carries the style, 0 to 3 in the order of `KitStyle`, after duty; otherwise its form is broken" (02, Card 8).
-use Rattle.std.specs.Prelude.{ℕ, List, [], Bool, true, false, cond, length, replicate, eqb}
+use Rattle.std.specs.Prelude.{ℕ, List, [], Bool, true, false, cond, length, replicate, eqb, None, Option, Some}
 use Rattle.std.specs.Float.{binary32}
 use Rattle.std.specs.Float.Ieee.{of_bits}
 use Rattle.dsl.specs.Sets.{fm_by, pluck_by, piano_by, bass_by, drawbars_by}
@@ -10,11 +10,7 @@ use Rattle.dsl.specs.Wave.{wave_at}
 use Rattle.dsl.specs.Kit.{style_at}
 use Rattle.dsl.specs.declared.kit.KitStyle.{KitStyle}
 use Rattle.dsl.specs.declared.kit.KitStyle.TheVariants.{Classic}
-use Rattle.dsl.specs.declared.kit.StyleAt.{StyleAt}
-use Rattle.dsl.specs.declared.kit.StyleAt.TheVariants.{Style, NoStyle}
 use Rattle.dsl.specs.declared.wave.SeqWave.{SeqWave}
-use Rattle.dsl.specs.declared.wave.WaveAt.{WaveAt}
-use Rattle.dsl.specs.declared.wave.WaveAt.TheVariants.{Wave, Nothing}
 use Rattle.dsl.specs.declared.knobs.Drawbars.{Drawbars}
 use Rattle.dsl.specs.declared.knobs.SeqVoice.{SeqVoice}
 use Rattle.text_digits.specs.Read.{Read, got, broken, after, newline, byte}
@@ -62,9 +58,9 @@ knob_count place ended =
 unfoldable pub bars_of : List ℕ → Drawbars
 bars_of bits = cond (eqb (length bits) 0) BARS (drawbars_by (float_at bits))
 
-abbrev pub styled : StyleAt → List ℕ → Read KitStyle
-styled (Style style) s = got style s
-styled NoStyle s = broken
+abbrev pub styled : Option KitStyle → List ℕ → Read KitStyle
+styled (Some style) s = got style s
+styled None s = broken
 
 -- the style that is written, of the kit alone; the voice of another wave holds the first
 unfoldable pub style_field : ℕ → List ℕ → Read KitStyle
@@ -92,9 +88,9 @@ voice_of place wave style bits =
     (cond (eqb place bass_place) (voice_with wave style [] [] [] bits []) (cond (eqb place organ_place) (voice_with wave style [] [] [] [] bits) (voice_with wave style [] [] [] [] [])))))
 
 -- the duty, the style and the knobs or drawbars of the wave at a place
-unfoldable pub sound_of : ℕ → WaveAt → List ℕ → Read Sound
-sound_of place Nothing s = broken
-sound_of place (Wave w) s =
+unfoldable pub sound_of : ℕ → Option SeqWave → List ℕ → Read Sound
+sound_of place None s = broken
+sound_of place (Some w) s =
     after (field float s) (λ duty s₁.
     after (style_field place s₁) (λ style s₂.
     after (ending (replicate (knob_count place (ends s₂)) float) s₂) (λ bits next. got (record { voice = voice_of place w style bits; duty = of_bits binary32 duty }) next)))

@@ -1,21 +1,18 @@
 // The line V of a text score: a wave with its knobs, drawbars or style, and the duty.
 #![tactic(auto)]
 
-ghost use Rattle.std.specs.Prelude.{◌≡◌, drop};
+ghost use Rattle.std.specs.Prelude.{◌≡◌, drop, Some};
 ghost use Rattle.dsl.specs.Sets.{fm_by, pluck_by, piano_by, bass_by};
-ghost use Rattle.dsl.specs.declared.wave.WaveAt.TheVariants.{Wave};
 ghost use Rattle.text_lines.specs.Line.{float_at};
 ghost use Rattle.text_voice_line.specs.Voice.{ends, bar_count, knob_count, bars_of, style_field, voice_with, voice_of, sound_of, line_v};
-ghost use Rattle.text_voice_line.specs.Answers.{sound_in, style_in};
+ghost use Rattle.text_digits.specs.Answers.{value_in};
 
-use dsl::{
-    BassKnobs, Drawbars, FmKnobs, KitStyle, PianoKnobs, PluckKnobs, SeqVoice, SeqWave, StyleAt,
-    WaveAt,
-};
-use text_digits::{Number, Place, expect};
+use dsl::{BassKnobs, Drawbars, FmKnobs, KitStyle, PianoKnobs, PluckKnobs, SeqVoice, SeqWave};
+use text_digits::expect;
 use text_lines::{FLOAT, WORD, ending, field, float_at};
 
-// The places of the waves that have knobs, drawbars or a style.
+// The places of the waves that have knobs, drawbars or a style. They stay numbers, as on the line V,
+// since the definitions `knob_count`, `style_field`, `voice_of` and `sound_of` take a place.
 const FM: u32 = 5;
 
 const PLUCK: u32 = 6;
@@ -32,10 +29,7 @@ const KIT: u32 = 16;
 fn ends(s: &[u8], at: usize) -> bool
     ensures { result ≡ ends (drop at s.now) }
 {
-    match expect(s, at, b'\n') {
-        Place::At(_) => true,
-        Place::Broken => false,
-    }
+    expect(s, at, b'\n').is_some()
 }
 
 // Drawbars are ten numbers or, where the line ends after the duty, none.
@@ -142,26 +136,16 @@ fn bars_of(bits: &[u32]) -> Drawbars
     }
 }
 
-#[derive(Clone, Copy)]
-pub enum StyleField {
-    At(KitStyle, usize),
-    Broken,
-}
-
-// The kit's style. Other waves have none on their line, and their voices hold the first.
-fn style_field(s: &[u8], at: usize, place: u32) -> StyleField
-    ensures { style_in s.now result ≡ style_field place (drop at s.now) }
+// The kit's style, and the place after it. Other waves have none on their line, and their voices hold the first.
+fn style_field(s: &[u8], at: usize, place: u32) -> Option<(KitStyle, usize)>
+    ensures { value_in s.now result ≡ style_field place (drop at s.now) }
 {
     if place != KIT {
-        return StyleField::At(KitStyle::Classic, at);
+        return Some((KitStyle::Classic, at));
     }
-    let Number::At(number, next) = field(s, at, WORD) else {
-        return StyleField::Broken;
-    };
-    let StyleAt::Style(style) = KitStyle::at(number as u32) else {
-        return StyleField::Broken;
-    };
-    StyleField::At(style, next)
+    let (number, next) = field(s, at, WORD)?;
+    let style = KitStyle::at(number as u32)?;
+    Some((style, next))
 }
 
 // The voice of a style, of the bits of each set and of the drawbars.
@@ -216,46 +200,28 @@ pub struct Sound {
     pub duty: f32,
 }
 
-#[derive(Clone, Copy)]
-pub enum LineV {
-    At(Sound, usize),
-    Broken,
-}
-
 // The duty, the style and the knobs or drawbars of a wave, to the end of its line.
-fn sound_of(s: &[u8], at: usize, place: u32, wave: SeqWave) -> LineV
-    ensures { sound_in s.now result ≡ sound_of place (Wave wave) (drop at s.now) }
+fn sound_of(s: &[u8], at: usize, place: u32, wave: SeqWave) -> Option<(Sound, usize)>
+    ensures { value_in s.now result ≡ sound_of place (Some wave) (drop at s.now) }
 {
-    let Number::At(duty, second) = field(s, at, FLOAT) else {
-        return LineV::Broken;
-    };
-    let StyleField::At(style, first) = style_field(s, second, place) else {
-        return LineV::Broken;
-    };
+    let (duty, second) = field(s, at, FLOAT)?;
+    let (style, first) = style_field(s, second, place)?;
     let kinds = [FLOAT; 10];
     let mut bits = [0u32; 10];
     let k = knob_count(place, ends(s, first));
-    let Place::At(next) = ending(s, first, &kinds[..k], &mut bits) else {
-        return LineV::Broken;
-    };
+    let next = ending(s, first, &kinds[..k], &mut bits)?;
     let sound = Sound {
         voice: voice_of(place, wave, style, &bits[..k]),
         duty: rounding::f32_from_bits(duty as u32),
     };
-    LineV::At(sound, next)
+    Some((sound, next))
 }
 
-pub fn line_v(s: &[u8], at: usize) -> LineV
-    ensures { sound_in s.now result ≡ line_v (drop at s.now) }
+pub fn line_v(s: &[u8], at: usize) -> Option<(Sound, usize)>
+    ensures { value_in s.now result ≡ line_v (drop at s.now) }
 {
-    let Place::At(first) = expect(s, at, b'V') else {
-        return LineV::Broken;
-    };
-    let Number::At(place, next) = field(s, first, WORD) else {
-        return LineV::Broken;
-    };
-    let WaveAt::Wave(wave) = SeqWave::at(place as u32) else {
-        return LineV::Broken;
-    };
+    let first = expect(s, at, b'V')?;
+    let (place, next) = field(s, first, WORD)?;
+    let wave = SeqWave::at(place as u32)?;
     sound_of(s, next, place as u32, wave)
 }

@@ -10,6 +10,3 @@ use Rattle.text_digits.proofs.decimal.Given as goal
 
 abbrev pub invariant-loop-at : goal.invariant-loop-at
 invariant-loop-at l = (l.v ≤ l.most) × (fitting l.most (digits_from l.v (drop l.at l.s)) ≡ decimal l.most (drop l.start l.s))
-
-abbrev pub decreases-loop-at : goal.decreases-loop-at
-decreases-loop-at l = length l.s - l.at

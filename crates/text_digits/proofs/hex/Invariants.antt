@@ -10,6 +10,3 @@ use Rattle.text_digits.proofs.hex.Given as goal
 
 abbrev pub invariant-loop-i : goal.invariant-loop-i
 invariant-loop-i l = (l.v < 2 ^ (4 * l.i)) × (l.i ≤ l.count) × (hex_from (l.count - l.i) l.v (drop l.at l.s) ≡ hex_from l.count 0 (drop l.start l.s))
-
-abbrev pub decreases-loop-i : goal.decreases-loop-i
-decreases-loop-i l = l.count - l.i

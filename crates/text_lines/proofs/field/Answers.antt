@@ -1,12 +1,11 @@
 -- `text_lines::field` meets its contract. Assumes nothing.
 use Rattle.text_lines.specs.Line.{field}
-use borrow.Author.Rules.{rules}
 use Rattle.text_lines.proofs.field.Goals as goal
 
-pub returns-in_default : goal.returns-in_default
+pub returns-in_err-next : goal.returns-in_err-next
 unfolding field
-returns-in_default c = rw (← (rw c.in_default.is at c.expect.ensures))
+returns-in_err-next c = rw (c.from_residual.ensures, ← (rw c.in_err-next.was at c.expect.ensures))
 
 pub returns : goal.returns
 unfolding field
-returns c = rw (← (rw c.in-At.is at c.expect.ensures)) c.value.ensures
+returns c = rw (← (rw c.in_ok-next.was at c.expect.ensures)) c.value.ensures

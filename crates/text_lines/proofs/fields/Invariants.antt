@@ -16,6 +16,3 @@ invariant-loop-i l =
     × (length l.values ≡ length l.initial.values)
     × (before (take l.i l.values) (fields (drop l.i l.kinds) (drop l.at l.s)) ≡ fields l.kinds (drop l.start l.s))
     × Led l.kinds l.s l.start l.initial.values l.i l.at l.values
-
-abbrev pub decreases-loop-i : goal.decreases-loop-i
-decreases-loop-i l = length l.kinds - l.i

@@ -1,15 +1,14 @@
 -- `text_lines::line_e` meets its contract. Assumes nothing.
 use Rattle.text_lines.specs.Line.{line_e}
 use Rattle.text_lines.proofs.Reading.{env_read}
-use borrow.Author.Rules.{rules}
 use Rattle.text_lines.proofs.line_e.Goals as goal
 
-pub returns-in_default : goal.returns-in_default
+pub returns-in_err-next : goal.returns-in_err-next
 unfolding line_e
-returns-in_default c = rw (← (rw c.in_default.is at c.line.ensures.result_after))
+returns-in_err-next c = rw (c.from_residual.ensures, ← (rw c.in_err-next.was at c.line.ensures.result_after))
 
 pub returns : goal.returns
 returns c =
-    let next = rw c.in-At.is at c.line.ensures.result_after in
+    let next = rw c.in_ok-next.was at c.line.ensures.result_after in
     rw (c.float_at-5.ensures, c.float_at-4.ensures, c.float_at-3.ensures, c.float_at-2.ensures, c.float_at.ensures)
     (env_read c.line.new.values _ c.line.auto.values next)

@@ -3,17 +3,16 @@ use Rattle.text_voice_line.proofs.Sounds.{knobs_few, kinds_length, bits_few, bit
 use native.Mathlib.Omega.{arith}
 use Rattle.text_voice_line.specs.Voice.{sound_of}
 use Rattle.text_lines.proofs.Small.{field_small}
-use borrow.Author.Rules.{rules}
 use Rattle.text_voice_line.proofs.sound_of.Goals as goal
 
-pub returns-in_default : goal.returns-in_default
+pub returns-in_err-duty : goal.returns-in_err-duty
 unfolding sound_of
-returns-in_default c = rw (← (rw c.in_default.is at c.field.ensures))
+returns-in_err-duty c = rw (c.from_residual.ensures, ← (rw c.in_err-duty.was at c.field.ensures))
 
-pub returns-in_default-style_field : goal.returns-in_default-style_field
+pub returns-in_err-style : goal.returns-in_err-style
 unfolding sound_of
-returns-in_default-style_field c =
-    rw (← (rw c.in-At.is at c.field.ensures), ← (rw c.in_default-style_field.is at c.style_field.ensures))
+returns-in_err-style c =
+    rw (c.from_residual-in_err-style.ensures, ← (rw c.in_ok-duty.was at c.field.ensures), ← (rw c.in_err-style.was at c.style_field.ensures))
 
 pub slice_bounds-kinds-end : goal.slice_bounds-kinds-end
 slice_bounds-kinds-end c = knobs_few c.args.place _ c.knob_count-k.ensures
@@ -27,11 +26,12 @@ ending-requires c =
     let h = knobs_few c.args.place _ c.knob_count-k.ensures in
     omega arith
 
-pub returns-in_default-ending : goal.returns-in_default-ending
-returns-in_default-ending c =
-    let duty = rw c.in-At.is at c.field.ensures in
-    let style = rw c.in-At-style_field.is at c.style_field.ensures in
-    sound_none c.args.place _ c.knob_count-k.ensures c.args.wave _ duty style c.ends.ensures (rw c.in_default-ending.is at c.ending.ensures.result_after)
+pub returns-in_err-next : goal.returns-in_err-next
+returns-in_err-next c =
+    let duty = rw c.in_ok-duty.was at c.field.ensures in
+    let style = rw c.in_ok-style.was at c.style_field.ensures in
+    rw c.from_residual-in_err-next.ensures
+    (sound_none c.args.place _ c.knob_count-k.ensures c.args.wave _ duty style c.ends.ensures (rw c.in_err-next.was at c.ending.ensures.result_after))
 
 pub slice_bounds-bits-end : goal.slice_bounds-bits-end
 slice_bounds-bits-end c =
@@ -43,13 +43,13 @@ slice_bounds-voice_of-end c =
 
 pub overflow_cast-duty : goal.overflow_cast-duty
 overflow_cast-duty c =
-    let h = field_small _ c.args.at c.args.s.now c.in-At.is c.field.ensures in
+    let h = field_small _ c.args.at c.args.s.now c.in_ok-duty.was c.field.ensures in
     omega arith
 
 pub returns : goal.returns
 returns c =
-    let duty = rw c.in-At.is at c.field.ensures in
-    let style = rw c.in-At-style_field.is at c.style_field.ensures in
-    let next = rw c.in-At-ending.is at c.ending.ensures.result_after in
+    let duty = rw c.in_ok-duty.was at c.field.ensures in
+    let style = rw c.in_ok-style.was at c.style_field.ensures in
+    let next = rw c.in_ok-next.was at c.ending.ensures.result_after in
     rw (c.f32_from_bits.ensures, c.voice_of.ensures)
     (sound_read c.args.place _ c.knob_count-k.ensures c.args.wave _ duty style c.ends.ensures c.ending.new.values next)

@@ -1,6 +1,5 @@
 -- `cue_line::cell::cell_length` meets its contract. Assumes nothing.
-use borrow.Author.Rules.{rules}
 use Rattle.cue_line.proofs.cell.cell_length.Goals as goal
 
-pub returns-in-Number : goal.returns-in-Number
-returns-in-Number c = rw c.in-Number.is c.decimal_length.ensures
+pub returns-in-Some : goal.returns-in-Some
+returns-in-Some c = rw c.in-Some.is c.decimal_length.ensures

@@ -10,6 +10,3 @@ use Rattle.cue_pages.proofs.sheet.put_sheet.Given as goal
 
 abbrev pub invariant-loop-k : goal.invariant-loop-k
 invariant-loop-k l = (Sheeting (score_of l.seq l.notes l.lane l.lent) l.draw l.initial.page l.k l.at l.first l.page) × (l.count ≡ length l.notes / 5)
-
-abbrev pub decreases-loop-k : goal.decreases-loop-k
-decreases-loop-k l = l.count - l.k

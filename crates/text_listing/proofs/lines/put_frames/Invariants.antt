@@ -9,6 +9,3 @@ use Rattle.text_listing.proofs.lines.put_frames.Given as goal
 
 abbrev pub invariant-loop-i : goal.invariant-loop-i
 invariant-loop-i l = Listed (λ k. frame_bits (get_or l.frames k nan)) (length l.frames) l.start l.initial.out l.i l.at l.out
-
-abbrev pub decreases-loop-i : goal.decreases-loop-i
-decreases-loop-i l = length l.frames - l.i

@@ -1,10 +1,8 @@
 -- `text_read::notes::store_notes` meets its contract. The loop's invariant is `Storing`; the lines were judged, so that none breaks. Assumes nothing.
 use Prim.Native.Nat.{◌-◌}
 use native.Mathlib.Omega.{arith}
-use lib.ListN.{length}
-use Rattle.text_read.proofs.Gather.{Storing, storing_none, storing_bad, storing_room, storing_more, storing_all}
+use Rattle.text_read.proofs.Gather.{storing_none, storing_bad, storing_room, storing_more, storing_all}
 use Rattle.text_read.proofs.Shorter.{note_later}
-use borrow.Author.Rules.{rules}
 use Rattle.text_read.proofs.notes.store_notes.Goals as goal
 
 pub loop-at-init : goal.loop-at-init
@@ -19,7 +17,7 @@ returns-in_default c =
 
 pub store_note-requires : goal.store_note-requires
 store_note-requires c =
-    let told = c.in-At.is in
+    let told = c.in-Some.is in
     let l = note_later c.args.s.now c.loop-at.at told c.line_n.ensures in
     storing_room c.loop-at.invariant c.loop-at-test.true c.line_n.ensures told (omega arith)
 
@@ -28,12 +26,12 @@ overflow_add-n c = omega (arith, c.loop-at.invariant.gathered.few)
 
 pub loop-at-smaller : goal.loop-at-smaller
 loop-at-smaller c =
-    note_later c.args.s.now c.loop-at.at c.in-At.is c.line_n.ensures
+    note_later c.args.s.now c.loop-at.at c.in-Some.is c.line_n.ensures
 
 pub loop-at-preserved : goal.loop-at-preserved
 loop-at-preserved c =
     let is = c.line_n.ensures in
-    let told = c.in-At.is in
+    let told = c.in-Some.is in
     let l = note_later c.args.s.now c.loop-at.at told is in
     let stored = c.store_note in
     storing_more c.loop-at.invariant c.loop-at-test.true is told (omega arith) stored.auto.words stored.ensures
