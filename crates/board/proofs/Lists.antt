@@ -10,7 +10,7 @@ use Rattle.board.specs.Shape.{covers, byte_for, is_sample, sample_of, permitted}
 use Rattle.board.specs.Write.{Written, stored, queued, taken, refused, sampled, other, write_of}
 use Rattle.board.specs.Claim.{Event, Run, none, wrote, ticked}
 use Rattle.board.specs.declared.registers.Board.{Board}
-use Rattle.board.specs.declared.answer.WriteOutcome.TheVariants.{QueueFull, Invalid}
+use Rattle.board.specs.declared.answer.WriteRefusal.TheVariants.{QueueFull, Invalid}
 use Rattle.board.proofs.Writes.{permitted_mark}
 use Rattle.board.proofs.Ticks.{tick_mark}
 

@@ -11,7 +11,7 @@ use Rattle.board.specs.Write.{Written, stored, queued, taken, refused, sampled, 
 use Rattle.board.specs.Tick.{Ticked, running, standing, tick_of}
 use Rattle.board.specs.Claim.{Event, Run, none, wrote, ticked, accepted_by, accepted, taken_in}
 use Rattle.board.specs.declared.registers.Board.{Board}
-use Rattle.board.specs.declared.answer.WriteOutcome.TheVariants.{QueueFull, Invalid}
+use Rattle.board.specs.declared.answer.WriteRefusal.TheVariants.{QueueFull, Invalid}
 
 -- a write adds what it was accepted for
 module _ (m : Registers) (place : ℕ) (bytes : List ℕ) where

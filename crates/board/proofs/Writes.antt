@@ -11,7 +11,8 @@ use Rattle.board.specs.Registers.{Registers, digit, fill, full, control_of, byte
 use Rattle.board.specs.Shape.{byte_for, is_sample, sample_of, inside, valid, permitted}
 use Rattle.board.specs.Write.{Written, bit0, bit1, stored, queued, taken, refused, sampled, other, write_of}
 use Rattle.board.specs.Whole.{Whole}
-use Rattle.board.specs.declared.answer.WriteOutcome.TheVariants.{Accepted, QueueFull, Invalid}
+use Rattle.std.specs.Prelude.{Ok, Err}
+use Rattle.board.specs.declared.answer.WriteRefusal.TheVariants.{QueueFull, Invalid}
 use Rattle.board.proofs.Shapes.{and_both}
 
 -- What a write comes to, by its tests.
@@ -30,7 +31,7 @@ module _ (m : Registers) (place : ℕ) (bytes : List ℕ) where
 
   -- "taken whole or not at all": what is not accepted changes nothing
   abbrev Kept : Written → Type 0
-  Kept w = (w.outcome ≡ Accepted → ⊥) → w.after ≡ m
+  Kept w = (w.outcome ≡ Ok tt → ⊥) → w.after ≡ m
 
   sample_kept : (f : Bool) → Kept (cond f (refused m QueueFull) (taken (queued m (sample_of bytes))))
   sample_kept true h = refl
@@ -148,7 +149,7 @@ module _ (m : Registers) (place : ℕ) (bytes : List ℕ) where
 
   -- and no other write
   abbrev Full : Written → Type 0
-  Full w = w.outcome ≡ QueueFull → (is_sample place bytes ≡ true) × (fill m ≡ 64)
+  Full w = w.outcome ≡ Err QueueFull → (is_sample place bytes ≡ true) × (fill m ≡ 64)
 
   sample_full : (f : Bool) → full m ≡ f → is_sample place bytes ≡ true → Full (cond f (refused m QueueFull) (taken (queued m (sample_of bytes))))
   sample_full true f e h = (e, eqb-true (fill m) 64 f)

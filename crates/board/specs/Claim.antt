@@ -1,5 +1,5 @@
 -- "For every list of writes and ticks on an empty queue, samples taken followed by samples waiting are the accepted samples, in order."
-use Rattle.std.specs.Prelude.{ℕ, ◌≡◌, List, [], ◌∷◌, ◌++◌, cond}
+use Rattle.std.specs.Prelude.{ℕ, Result, Ok, Err, ◌≡◌, List, [], ◌∷◌, ◌++◌, cond}
 use Rattle.board.specs.Registers.{registers}
 use Rattle.board.specs.Shape.{is_sample, sample_of}
 use Rattle.board.specs.Write.{write_of, written}
@@ -7,8 +7,7 @@ use Rattle.board.specs.Tick.{tick_of, Ticks}
 use Rattle.board.specs.declared.registers.Board.{Board}
 use Rattle.board.specs.declared.registers.Write.{Write}
 use Rattle.board.specs.declared.registers.Tick.{Tick}
-use Rattle.board.specs.declared.answer.WriteOutcome.{WriteOutcome}
-use Rattle.board.specs.declared.answer.WriteOutcome.TheVariants.{Accepted, QueueFull, Invalid}
+use Rattle.board.specs.declared.answer.WriteRefusal.{WriteRefusal}
 
 -- a write with its place, its bytes and its answer, or a tick with its answer
 pub data Event : Type 0 where
@@ -24,10 +23,9 @@ pub data Run : Board → List Event → Board → Type 0 where
   ticked : {a b : Board} {es : List Event} (r : Tick) → Ticks a r → Run r.board es b → Run a (tick r ∷ es) b
 
 -- the sample of a write that was answered so, if it was one
-abbrev pub accepted_by : WriteOutcome → ℕ → List ℕ → List ℕ
-accepted_by Accepted place bytes = cond (is_sample place bytes) (sample_of bytes ∷ []) []
-accepted_by QueueFull place bytes = []
-accepted_by Invalid place bytes = []
+abbrev pub accepted_by : Result (Unit {0}) WriteRefusal → ℕ → List ℕ → List ℕ
+accepted_by (Ok taken) place bytes = cond (is_sample place bytes) (sample_of bytes ∷ []) []
+accepted_by (Err r) place bytes = []
 
 -- the samples of the writes that were answered as accepted, in order
 unfoldable pub accepted : List Event → List ℕ

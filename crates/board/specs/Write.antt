@@ -1,10 +1,10 @@
 -- A write: "a place and its bytes, taken whole or not at all".
-use Rattle.std.specs.Prelude.{ℕ, ◌+◌, ◌/◌, ◌%◌, List, [], ◌∷◌, ◌++◌, Bool, false, cond, length, eqb}
+use Rattle.std.specs.Prelude.{ℕ, Result, Ok, Err, ◌/◌, ◌%◌, List, [], ◌∷◌, ◌++◌, Bool, false, cond, length, eqb}
 use Rattle.board.specs.Registers.{Registers, registers, full}
 use Rattle.board.specs.Shape.{covers, byte_for, is_sample, sample_of, permitted}
 use Rattle.board.specs.declared.registers.Write.{Write}
-use Rattle.board.specs.declared.answer.WriteOutcome.{WriteOutcome}
-use Rattle.board.specs.declared.answer.WriteOutcome.TheVariants.{Accepted, QueueFull, Invalid}
+use Rattle.board.specs.declared.answer.WriteRefusal.{WriteRefusal}
+use Rattle.board.specs.declared.answer.WriteRefusal.TheVariants.{QueueFull, Invalid}
 
 abbrev pub bit0 : ℕ → Bool
 bit0 byte = eqb (byte % 2) 1
@@ -31,14 +31,14 @@ queued m sample = record { run = m.run; enable = m.enable; underrun = m.underrun
 -- what a write comes to: the registers after it, and its answer
 pub record Written : Type 0 where
   pub after : Registers
-  pub outcome : WriteOutcome
+  pub outcome : Result (Unit {0}) WriteRefusal
 
 abbrev pub taken : Registers → Written
-taken after = record { after = after; outcome = Accepted }
+taken after = record { after = after; outcome = Ok tt }
 
 -- a refused write changes nothing
-abbrev pub refused : Registers → WriteOutcome → Written
-refused m outcome = record { after = m; outcome = outcome }
+abbrev pub refused : Registers → WriteRefusal → Written
+refused m refusal = record { after = m; outcome = Err refusal }
 
 -- a sample's write
 unfoldable pub sampled : Registers → ℕ → Written

@@ -11,5 +11,5 @@ mod queue; // queue.rt: the samples that wait
 mod registers; // registers.rt: the board, its writes, reads and ticks
 mod shape; // shape.rt: what a write covers, and which is taken
 
-pub use answer::WriteOutcome;
+pub use answer::{WriteRefusal, write_number};
 pub use registers::{Board, Tick, Write};

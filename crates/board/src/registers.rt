@@ -5,7 +5,7 @@ ghost use Rattle.board.specs.Registers.{registers, opened, digit, low, full, sta
 ghost use Rattle.board.specs.Write.{stored, sampled, write_of, written};
 ghost use Rattle.board.specs.Tick.{Ticks};
 
-use crate::answer::WriteOutcome;
+use crate::answer::WriteRefusal;
 use crate::queue::Queue;
 use crate::shape::{byte_for, covered, is_permitted, is_sample, sample_of};
 
@@ -22,7 +22,7 @@ pub struct Board {
 #[derive(Clone, Copy)]
 pub struct Write {
     pub board: Board,
-    pub outcome: WriteOutcome,
+    pub outcome: Result<(), WriteRefusal>,
 }
 
 // The board after a tick, and the sample that it played.
@@ -45,13 +45,7 @@ fn digit(on: bool) -> u8
     if on { 1 } else { 0 }
 }
 
-fn pick(first: bool, a: bool, b: bool) -> bool
-    ensures { result ≡ cond first a b }
-{
-    if first { a } else { b }
-}
-
-fn pick_byte(first: bool, a: u8, b: u8) -> u8
+fn pick<T: Copy + Drop>(first: bool, a: T, b: T) -> T
     ensures { result ≡ cond first a b }
 {
     if first { a } else { b }
@@ -124,7 +118,7 @@ impl Board {
             run: pick(to_control, control % 2 == 1, self.run),
             enable: pick(to_control, control / 2 % 2 == 1, self.enable),
             underrun: pick(status / 2 % 2 == 1, false, self.underrun),
-            mark: pick_byte(to_mark, byte_for(place, bytes, 2), self.mark),
+            mark: pick(to_mark, byte_for(place, bytes, 2), self.mark),
         }
     }
 
@@ -134,7 +128,7 @@ impl Board {
         if self.is_full() {
             return Write {
                 board: self,
-                outcome: WriteOutcome::QueueFull,
+                outcome: Err(WriteRefusal::QueueFull),
             };
         }
         let queue = self.queue;
@@ -148,7 +142,7 @@ impl Board {
         };
         Write {
             board,
-            outcome: WriteOutcome::Accepted,
+            outcome: Ok(()),
         }
     }
 
@@ -163,12 +157,12 @@ impl Board {
             let board = self.stored(place, bytes);
             return Write {
                 board,
-                outcome: WriteOutcome::Accepted,
+                outcome: Ok(()),
             };
         }
         Write {
             board: self,
-            outcome: WriteOutcome::Invalid,
+            outcome: Err(WriteRefusal::Invalid),
         }
     }
 

@@ -17,20 +17,10 @@ use std::io::{BufWriter, Write};
 // No line has more bytes than this; where it asks for more, these are written.
 const MOST_BYTES: usize = 16;
 
-fn wide(byte: u8) -> u64 {
-    byte as u64
-}
-
-fn bit(on: bool) -> u64 {
-    if on { 1 } else { 0 }
-}
-
 // The fields from the fourth on as bytes.
 fn read_bytes(line: &[u8], bytes: &mut [u8]) {
-    let mut i = 0;
-    while i < bytes.len() {
-        bytes[i] = (vectors::u32_field(line, i + 3) % 256) as u8;
-        i += 1;
+    for (i, byte) in bytes.iter_mut().enumerate() {
+        *byte = (vectors::u32_field(line, i + 3) % 256) as u8;
     }
 }
 
@@ -39,7 +29,7 @@ fn print_answer<W: Write>(writer: &mut W, answer: u64, interrupt: bool) -> io::R
     ensures { Grows (W.contents writer.old) (W.contents writer.new) }
 {
     vectors::print_u64(writer, answer)?;
-    vectors::print_u64(writer, bit(interrupt))?;
+    vectors::print_u64(writer, u64::from(interrupt))?;
     vectors::print_text(writer, b"\n")
 }
 
@@ -54,8 +44,8 @@ fn write_bytes<W: Write>(
     read_bytes(line, bytes);
     let write = board.write(vectors::u32_field(line, 1), bytes);
     let after = write.board;
-    let outcome = write.outcome;
-    print_answer(writer, outcome.number() as u64, after.interrupt())?;
+    let number = board::write_number(write.outcome);
+    print_answer(writer, u64::from(number), after.interrupt())?;
     Ok(after)
 }
 
@@ -70,11 +60,8 @@ fn replay_write<W: Write>(writer: &mut W, board: Board, line: &[u8]) -> io::Resu
 fn replay_read<W: Write>(writer: &mut W, board: Board, line: &[u8]) -> io::Result<Board>
     ensures { Grows (W.contents writer.old) (W.contents writer.new) }
 {
-    print_answer(
-        writer,
-        wide(board.read(vectors::u32_field(line, 1))),
-        board.interrupt(),
-    )?;
+    let byte = board.read(vectors::u32_field(line, 1));
+    print_answer(writer, u64::from(byte), board.interrupt())?;
     Ok(board)
 }
 
@@ -83,7 +70,7 @@ fn replay_tick<W: Write>(writer: &mut W, board: Board) -> io::Result<Board>
 {
     let tick = board.tick();
     let after = tick.board;
-    print_answer(writer, tick.sample as u64, after.interrupt())?;
+    print_answer(writer, u64::from(tick.sample), after.interrupt())?;
     Ok(after)
 }
 
@@ -105,27 +92,14 @@ fn replay_line<W: Write>(writer: &mut W, board: Board, line: &[u8]) -> io::Resul
     Ok(Board::new())
 }
 
-fn replay<W: Write>(writer: &mut W, input: &[u8]) -> io::Result<()>
-    ensures { Grows (W.contents writer.old) (W.contents writer.new) }
-{
-    let mut board = Board::new();
-    let mut at = 0;
-    while at < input.len() {
-        let end = vectors::line_end(input, at);
-        let line = &input[at..end];
-        board = replay_line(writer, board, line)?;
-        if end == input.len() {
-            return Ok(());
-        }
-        at = end + 1;
-    }
-    Ok(())
-}
-
 fn main(rt: HostRuntime) -> io::Result<()> {
-    let mut input = vectors::input_buffer();
+    let mut input = vectors::buffer::<524288>();
     let n = vectors::read_full(&mut rt.stdin(), &mut input)?;
     let mut writer = BufWriter::new(rt.alloc(), rt.stdout())?;
-    replay(&mut writer, &input[..n])?;
+    let mut board = Board::new();
+    vectors::replay_lines(&mut writer, &input[..n], |writer, line| {
+        board = replay_line(writer, board, line)?;
+        Ok(())
+    })?;
     writer.flush()
 }

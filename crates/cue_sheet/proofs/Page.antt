@@ -8,31 +8,30 @@ use lib.Seq.{length-take-le, take_at}
 use Rattle.text_judge.proofs.Refused.{refusal_long}
 use Rattle.text_listing.specs.Lines.{printed_r}
 use Rattle.text_sheet.specs.TextSheet.{SheetResult, refused, accepted, text_sheet, answer_of, page_after, SheetPrinted}
-use Rattle.text_sheet.specs.declared.sheet.Sheet.{Sheet}
-use Rattle.text_sheet.specs.declared.sheet.Sheet.TheVariants.{Bytes, Refused}
+use Rattle.std.specs.Prelude.{Err, Ok, Result}
 use Rattle.text_sheet.proofs.Ways.{printed_as}
 use Rattle.text_sheet.proofs.Most.{never_short}
 use Rattle.cue_sheet.specs.Input.{written, shown, shown_sheet, sheet_lines, InputPrinted, ReadPrinted}
 
 -- what goes out is within the page
-fits : (r : SheetResult) (said : Sheet) (page₀ page : List ℕ) → said ≡ answer_of r → page ≡ page_after page₀ r → written said ≤ length page
-fits r (Refused number) page₀ page e b = omega arith
-fits (refused number) (Bytes n) page₀ page e b = let z : ◌≡◌ {A = ℕ} 0 1 = cc in absurd (omega arith)
-fits (accepted sheet) (Bytes n) page₀ page e b =
+fits : (r : SheetResult) (said : Result ℕ ℕ) (page₀ page : List ℕ) → said ≡ answer_of r → page ≡ page_after page₀ r → written said ≤ length page
+fits r (Err number) page₀ page e b = omega arith
+fits (refused number) (Ok n) page₀ page e b = let z : ◌≡◌ {A = ℕ} 0 1 = cc in absurd (omega arith)
+fits (accepted sheet) (Ok n) page₀ page e b =
     let s : n ≡ length sheet = cc in
     omega (arith, ap length b, length-append sheet (drop (length sheet) page₀))
 
 -- and it is the sheet, or the line
-shown_is : (r : SheetResult) (said : Sheet) (page₀ page : List ℕ) → said ≡ answer_of r → page ≡ page_after page₀ r → shown said page ≡ shown_sheet r
-shown_is (refused k) (Refused number) page₀ page e b = let s : number ≡ k = cc in ap printed_r s
-shown_is (refused k) (Bytes n) page₀ page e b = let z : ◌≡◌ {A = ℕ} 0 1 = cc in absurd (omega arith)
-shown_is (accepted sheet) (Refused number) page₀ page e b = let z : ◌≡◌ {A = ℕ} 0 1 = cc in absurd (omega arith)
-shown_is (accepted sheet) (Bytes n) page₀ page e b =
+shown_is : (r : SheetResult) (said : Result ℕ ℕ) (page₀ page : List ℕ) → said ≡ answer_of r → page ≡ page_after page₀ r → shown said page ≡ shown_sheet r
+shown_is (refused k) (Err number) page₀ page e b = let s : number ≡ k = cc in ap printed_r s
+shown_is (refused k) (Ok n) page₀ page e b = let z : ◌≡◌ {A = ℕ} 0 1 = cc in absurd (omega arith)
+shown_is (accepted sheet) (Err number) page₀ page e b = let z : ◌≡◌ {A = ℕ} 0 1 = cc in absurd (omega arith)
+shown_is (accepted sheet) (Ok n) page₀ page e b =
     let s : n ≡ length sheet = cc in
     rw b (take_at sheet (drop (length sheet) page₀) n (sym s))
 
 -- ---- the program
-module _ (score page₀ page : List ℕ) (read : ℕ) {said : Sheet} (within : read ≤ length score) (h : SheetPrinted (text_sheet (take read score) (length page₀)) page₀ said page) where
+module _ (score page₀ page : List ℕ) (read : ℕ) {said : Result ℕ ℕ} (within : read ≤ length score) (h : SheetPrinted (text_sheet (take read score) (length page₀)) page₀ said page) where
   pub input_printed : 65536 < length score → 18692 ≤ length page₀ → InputPrinted score page₀ said page
   input_printed more room =
       let enough : 18692 ≤ 18692 = omega arith in

@@ -11,7 +11,6 @@ ghost use Rattle.cue_sheet.specs.Input.{written, shown, InputPrinted, ReadPrinte
 use programs::{Input, input_buffer, print_all, print_refusal, read_input};
 use std::io;
 use std::io::{Read, Write};
-use text_sheet::Sheet;
 
 // As long as the longest sheet: 73 bytes for each of 256 notes, and four form feeds.
 fn page_buffer() -> [u8; 18692]
@@ -21,7 +20,7 @@ fn page_buffer() -> [u8; 18692]
 }
 
 // Puts the sheet of what was read, the first bytes of `score`, at the start of `page`.
-fn print_read(score: &[u8], input: Input, page: &mut [u8]) -> Sheet
+fn print_read(score: &[u8], input: Input, page: &mut [u8]) -> Result<usize, u32>
     requires in_bounds { 65536 < length score.now }
     requires prefix_len { IsPrefixLen input.0 score.now }
     requires in_bounds_2 { 18692 ≤ length page.old }
@@ -34,7 +33,12 @@ fn print_read(score: &[u8], input: Input, page: &mut [u8]) -> Sheet
 
 // Reads the input into `score` and puts its sheet at the start of `page`, which has room for any. A read that
 // fails ends it with that read's error.
-fn print_input<R: Read>(input: &mut R, score: &mut [u8], page: &mut [u8]) -> io::Result<Sheet>
+// The programs share `read_input`; what is left here is one call, and a contract that speaks of this program alone.
+fn print_input<R: Read>(
+    input: &mut R,
+    score: &mut [u8],
+    page: &mut [u8],
+) -> io::Result<Result<usize, u32>>
     requires in_bounds { 65536 < length score.old }
     requires in_bounds_2 { 18692 ≤ length page.old }
     ensures input_printed { IfOk result (λ said. InputPrinted score.new page.old said page.new) }
@@ -49,14 +53,14 @@ fn print_input<R: Read>(input: &mut R, score: &mut [u8], page: &mut [u8]) -> io:
 }
 
 // The sheet, or the line of what refuses the score. A write that fails ends it with that write's error.
-fn answer<W: Write>(file: &mut W, said: Sheet, page: &[u8]) -> io::Result<()>
+fn answer<W: Write>(file: &mut W, said: Result<usize, u32>, page: &[u8]) -> io::Result<()>
     requires { written said ≤ length page.now }
     ensures all { OnOk result (Appends (W.contents file.old) (W.contents file.new) (shown said page.now)) }
     ensures part { OnErr result (AppendsPart (W.contents file.old) (W.contents file.new) (shown said page.now)) }
 {
     match said {
-        Sheet::Bytes(length) => print_all(file, &page[..length]),
-        Sheet::Refused(number) => print_refusal(file, number),
+        Ok(length) => print_all(file, &page[..length]),
+        Err(number) => print_refusal(file, number),
     }
 }
 

@@ -7,7 +7,6 @@
 // (compare/src/cue_reference.rs) and no sheet of ours.
 #![tactic(auto)]
 
-ghost use Rattle.std.specs.Prelude.{◌≤◌, ◌<◌, length, IfOk};
 ghost use Rattle.programs.specs.Streams.{Grows};
 
 use std::io;
@@ -35,38 +34,10 @@ fn replay_case<W: Write>(writer: &mut W, line: &[u8], text: &[u8]) -> io::Result
     call(writer, line, text, &mut space[..n])
 }
 
-// The place after the case at `at`: its line, and the bytes of its text, or as many as are left.
-fn replay_from<W: Write>(writer: &mut W, input: &[u8], at: usize) -> io::Result<usize>
-    requires { at < length input.now }
-    ensures next { IfOk result (λ next. (at < next) × (next ≤ length input.now)) }
-    ensures grows { Grows (W.contents writer.old) (W.contents writer.new) }
-{
-    let end = vectors::line_end(input, at);
-    if end == input.len() {
-        return Ok(end);
-    }
-    let start = end + 1;
-    let line = &input[at..end];
-    let length = vectors::length_field(line, 1, input.len() - start);
-    let stop = start + length;
-    replay_case(writer, line, &input[start..stop])?;
-    Ok(stop)
-}
-
-fn replay<W: Write>(writer: &mut W, input: &[u8]) -> io::Result<()>
-    ensures { Grows (W.contents writer.old) (W.contents writer.new) }
-{
-    let mut at = 0;
-    while at < input.len() {
-        at = replay_from(writer, input, at)?;
-    }
-    Ok(())
-}
-
 fn main(rt: HostRuntime) -> io::Result<()> {
-    let mut input = vectors::input_buffer();
+    let mut input = vectors::buffer::<524288>();
     let n = vectors::read_full(&mut rt.stdin(), &mut input)?;
     let mut writer = BufWriter::new(rt.alloc(), rt.stdout())?;
-    replay(&mut writer, &input[..n])?;
+    vectors::replay_cases(&mut writer, &input[..n], replay_case)?;
     writer.flush()
 }

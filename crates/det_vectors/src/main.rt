@@ -12,11 +12,11 @@ fn answer_f64<W: Write>(writer: &mut W, line: &[u8]) -> io::Result<()>
     ensures { Grows (W.contents writer.old) (W.contents writer.new) }
 {
     let x = vectors::f64_field(line, 1);
-    vectors::answer_f64(writer, line, b"sin", trig::sin(x))?;
-    vectors::answer_f64(writer, line, b"cos", trig::cos(x))?;
-    vectors::answer_f64(writer, line, b"exp", det::exp(x))?;
-    vectors::answer_f64(writer, line, b"ln", det::ln(x))?;
-    vectors::answer_f64(writer, line, b"tanh", det::tanh(x))
+    vectors::answer(writer, line, b"sin", trig::sin(x))?;
+    vectors::answer(writer, line, b"cos", trig::cos(x))?;
+    vectors::answer(writer, line, b"exp", det::exp(x))?;
+    vectors::answer(writer, line, b"ln", det::ln(x))?;
+    vectors::answer(writer, line, b"tanh", det::tanh(x))
 }
 
 // Their f32 wrappers.
@@ -24,11 +24,11 @@ fn answer_f32<W: Write>(writer: &mut W, line: &[u8]) -> io::Result<()>
     ensures { Grows (W.contents writer.old) (W.contents writer.new) }
 {
     let x = vectors::f32_field(line, 1);
-    vectors::answer_f32(writer, line, b"sinf", trig::sinf(x))?;
-    vectors::answer_f32(writer, line, b"cosf", trig::cosf(x))?;
-    vectors::answer_f32(writer, line, b"expf", det::expf(x))?;
-    vectors::answer_f32(writer, line, b"lnf", det::lnf(x))?;
-    vectors::answer_f32(writer, line, b"tanhf", det::tanhf(x))
+    vectors::answer(writer, line, b"sinf", trig::sinf(x))?;
+    vectors::answer(writer, line, b"cosf", trig::cosf(x))?;
+    vectors::answer(writer, line, b"expf", det::expf(x))?;
+    vectors::answer(writer, line, b"lnf", det::lnf(x))?;
+    vectors::answer(writer, line, b"tanhf", det::tanhf(x))
 }
 
 // The power, of two arguments.
@@ -37,10 +37,10 @@ fn answer_power<W: Write>(writer: &mut W, line: &[u8]) -> io::Result<()>
 {
     let x = vectors::f64_field(line, 1);
     let y = vectors::f64_field(line, 2);
-    vectors::answer_f64(writer, line, b"powf", det::powf(x, y))?;
+    vectors::answer(writer, line, b"powf", det::powf(x, y))?;
     let x = vectors::f32_field(line, 1);
     let y = vectors::f32_field(line, 2);
-    vectors::answer_f32(writer, line, b"powff", det::powff(x, y))
+    vectors::answer(writer, line, b"powff", det::powff(x, y))
 }
 
 // A name that no kernel has gets no answer.
@@ -54,25 +54,10 @@ fn replay_line<W: Write>(writer: &mut W, line: &[u8]) -> io::Result<()>
     vectors::print_text(writer, b"\n")
 }
 
-fn replay<W: Write>(writer: &mut W, text: &[u8]) -> io::Result<()>
-    ensures { Grows (W.contents writer.old) (W.contents writer.new) }
-{
-    let mut at = 0;
-    while at < text.len() {
-        let end = vectors::line_end(text, at);
-        replay_line(writer, &text[at..end])?;
-        if end == text.len() {
-            return Ok(());
-        }
-        at = end + 1;
-    }
-    Ok(())
-}
-
 fn main(rt: HostRuntime) -> io::Result<()> {
-    let mut text = vectors::short_buffer();
+    let mut text = vectors::buffer::<65536>();
     let n = vectors::read_full(&mut rt.stdin(), &mut text)?;
     let mut writer = BufWriter::new(rt.alloc(), rt.stdout())?;
-    replay(&mut writer, &text[..n])?;
+    vectors::replay_lines(&mut writer, &text[..n], replay_line)?;
     writer.flush()
 }

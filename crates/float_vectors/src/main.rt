@@ -12,14 +12,14 @@ fn answer_f32<W: Write>(writer: &mut W, line: &[u8]) -> io::Result<()>
     ensures { Grows (W.contents writer.old) (W.contents writer.new) }
 {
     let x = vectors::f32_field(line, 1);
-    vectors::answer_f32(writer, line, b"floor", float::floor_f32(x))?;
-    vectors::answer_f32(writer, line, b"trunc", float::trunc_f32(x))?;
-    vectors::answer_f32(writer, line, b"round", float::round_f32(x))?;
-    vectors::answer_f32(writer, line, b"fract", float::fract_f32(x))?;
-    vectors::answer_f32(writer, line, b"abs", float::abs_f32(x))?;
-    vectors::answer_f32(writer, line, b"signum", float::signum_f32(x))?;
-    vectors::answer_f32(writer, line, b"sqrt", rounding::sqrt_f32(x))?;
-    vectors::answer_f32(writer, line, b"bits", x)
+    vectors::answer(writer, line, b"floor", float::floor_f32(x))?;
+    vectors::answer(writer, line, b"trunc", float::trunc_f32(x))?;
+    vectors::answer(writer, line, b"round", float::round_f32(x))?;
+    vectors::answer(writer, line, b"fract", float::fract_f32(x))?;
+    vectors::answer(writer, line, b"abs", float::abs_f32(x))?;
+    vectors::answer(writer, line, b"signum", float::signum_f32(x))?;
+    vectors::answer(writer, line, b"sqrt", rounding::sqrt_f32(x))?;
+    vectors::answer(writer, line, b"bits", x)
 }
 
 // Helpers of one f64 that answer an f64.
@@ -27,15 +27,9 @@ fn answer_f64<W: Write>(writer: &mut W, line: &[u8]) -> io::Result<()>
     ensures { Grows (W.contents writer.old) (W.contents writer.new) }
 {
     let x = vectors::f64_field(line, 1);
-    vectors::answer_f64(writer, line, b"floor64", float::floor_f64(x))?;
-    vectors::answer_f64(writer, line, b"trunc64", float::trunc_f64(x))?;
-    vectors::answer_f64(writer, line, b"round64", float::round_f64(x))
-}
-
-fn print_i32<W: Write>(writer: &mut W, n: i32) -> io::Result<()>
-    ensures { Grows (W.contents writer.old) (W.contents writer.new) }
-{
-    vectors::print_i64(writer, n as i64)
+    vectors::answer(writer, line, b"floor64", float::floor_f64(x))?;
+    vectors::answer(writer, line, b"trunc64", float::trunc_f64(x))?;
+    vectors::answer(writer, line, b"round64", float::round_f64(x))
 }
 
 // Changes of type.
@@ -44,21 +38,12 @@ fn answer_cast<W: Write>(writer: &mut W, line: &[u8]) -> io::Result<()>
 {
     let x = vectors::f32_field(line, 1);
     let y = vectors::f64_field(line, 1);
-    vectors::answer_f64(writer, line, b"widen", rounding::widen(x))?;
-    vectors::answer_f32(writer, line, b"narrow", rounding::narrow(y))?;
-    if vectors::is_named(line, b"usize") {
-        vectors::print_u64(writer, float::f32_to_usize(x) as u64)?;
-    }
-    if vectors::is_named(line, b"i32") {
-        print_i32(writer, float::f32_to_i32(x))?;
-    }
-    if vectors::is_named(line, b"usize64") {
-        vectors::print_u64(writer, float::f64_to_usize(y) as u64)?;
-    }
-    if vectors::is_named(line, b"i64") {
-        vectors::print_i64(writer, float::f64_to_i64(y))?;
-    }
-    Ok(())
+    vectors::answer(writer, line, b"widen", rounding::widen(x))?;
+    vectors::answer(writer, line, b"narrow", rounding::narrow(y))?;
+    vectors::answer(writer, line, b"usize", float::f32_to_usize(x) as u64)?;
+    vectors::answer(writer, line, b"i32", i64::from(float::f32_to_i32(x)))?;
+    vectors::answer(writer, line, b"usize64", float::f64_to_usize(y) as u64)?;
+    vectors::answer(writer, line, b"i64", float::f64_to_i64(y))
 }
 
 fn answer_rem<W: Write>(writer: &mut W, line: &[u8]) -> io::Result<()>
@@ -66,7 +51,7 @@ fn answer_rem<W: Write>(writer: &mut W, line: &[u8]) -> io::Result<()>
 {
     let x = vectors::f32_field(line, 1);
     let y = vectors::f32_field(line, 2);
-    vectors::answer_f32(writer, line, b"rem", remainder::rem_f32(x, y))
+    vectors::answer(writer, line, b"rem", remainder::rem_f32(x, y))
 }
 
 // Helpers that pick one of their arguments.
@@ -76,11 +61,11 @@ fn answer_order<W: Write>(writer: &mut W, line: &[u8]) -> io::Result<()>
     let a = vectors::f32_field(line, 1);
     let b = vectors::f32_field(line, 2);
     let c = vectors::f32_field(line, 3);
-    vectors::answer_f32(writer, line, b"max", float::max_f32(a, b))?;
-    vectors::answer_f32(writer, line, b"min", float::min_f32(a, b))?;
-    vectors::answer_f32(writer, line, b"clamp", float::clamp_f32(a, b, c))?;
+    vectors::answer(writer, line, b"max", float::max_f32(a, b))?;
+    vectors::answer(writer, line, b"min", float::min_f32(a, b))?;
+    vectors::answer(writer, line, b"clamp", float::clamp_f32(a, b, c))?;
     let x = vectors::f64_field(line, 1);
-    vectors::answer_f64(
+    vectors::answer(
         writer,
         line,
         b"max64",
@@ -101,25 +86,10 @@ fn replay_line<W: Write>(writer: &mut W, line: &[u8]) -> io::Result<()>
     vectors::print_text(writer, b"\n")
 }
 
-fn replay<W: Write>(writer: &mut W, text: &[u8]) -> io::Result<()>
-    ensures { Grows (W.contents writer.old) (W.contents writer.new) }
-{
-    let mut at = 0;
-    while at < text.len() {
-        let end = vectors::line_end(text, at);
-        replay_line(writer, &text[at..end])?;
-        if end == text.len() {
-            return Ok(());
-        }
-        at = end + 1;
-    }
-    Ok(())
-}
-
 fn main(rt: HostRuntime) -> io::Result<()> {
-    let mut text = vectors::short_buffer();
+    let mut text = vectors::buffer::<65536>();
     let n = vectors::read_full(&mut rt.stdin(), &mut text)?;
     let mut writer = BufWriter::new(rt.alloc(), rt.stdout())?;
-    replay(&mut writer, &text[..n])?;
+    vectors::replay_lines(&mut writer, &text[..n], replay_line)?;
     writer.flush()
 }

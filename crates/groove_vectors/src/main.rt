@@ -8,7 +8,7 @@ ghost use Rattle.programs.specs.Streams.{Grows};
 ghost use Rattle.dsl.specs.Domain.{numeric, Frames};
 ghost use Rattle.tempo.specs.Map.{points};
 
-use dsl::{Decoded, KitStyle, SeqNote, SeqWave, StyleAt, WaveAt};
+use dsl::{Decoded, KitStyle, SeqNote, SeqWave};
 use std::io;
 use std::io::{BufWriter, Write};
 use tempo::TempoMap;
@@ -95,20 +95,10 @@ fn replay_groove<W: Write>(writer: &mut W, line: &[u8]) -> io::Result<()>
     Ok(())
 }
 
-// The words of the points, from field 12 on.
-fn point_words(line: &[u8]) -> [u32; 256] {
-    let mut out = [0u32; 256];
-    let mut i = 0;
-    while i < 256 {
-        out[i] = vectors::u32_field(line, 12 + i);
-        i += 1;
-    }
-    out
-}
-
+// The words of the points are in the fields from 12 on.
 fn map_of(line: &[u8]) -> TempoMap {
     let count = vectors::length_field(line, 11, 256);
-    let values = point_words(line);
+    let values = vectors::numbers::<u32, 256>(line, 12);
     raw_map::map_of(&values[..count])
 }
 
@@ -162,7 +152,7 @@ fn replay_mapped<W: Write>(writer: &mut W, line: &[u8]) -> io::Result<()>
 fn replay_draws<W: Write>(writer: &mut W, line: &[u8]) -> io::Result<()>
     ensures { Grows (W.contents writer.old) (W.contents writer.new) }
 {
-    let WaveAt::Wave(wave) = SeqWave::at(vectors::u32_field(line, 1)) else {
+    let Some(wave) = SeqWave::at(vectors::u32_field(line, 1)) else {
         return Ok(());
     };
     let rate = vectors::u32_field(line, 2);
@@ -173,7 +163,7 @@ fn replay_draws<W: Write>(writer: &mut W, line: &[u8]) -> io::Result<()>
         return Ok(());
     }
     let frames = vectors::u32_field(line, 4) as usize;
-    let StyleAt::Style(style) = KitStyle::at(vectors::u32_field(line, 5)) else {
+    let Some(style) = KitStyle::at(vectors::u32_field(line, 5)) else {
         return Ok(());
     };
     let draws = draws::draw_count(wave, style, rate, vectors::f32_field(line, 3), frames);
@@ -196,25 +186,10 @@ fn replay_line<W: Write>(writer: &mut W, line: &[u8]) -> io::Result<()>
     vectors::print_text(writer, b"\n")
 }
 
-fn replay<W: Write>(writer: &mut W, text: &[u8]) -> io::Result<()>
-    ensures { Grows (W.contents writer.old) (W.contents writer.new) }
-{
-    let mut at = 0;
-    while at < text.len() {
-        let end = vectors::line_end(text, at);
-        replay_line(writer, &text[at..end])?;
-        if end == text.len() {
-            return Ok(());
-        }
-        at = end + 1;
-    }
-    Ok(())
-}
-
 fn main(rt: HostRuntime) -> io::Result<()> {
-    let mut text = vectors::short_buffer();
+    let mut text = vectors::buffer::<65536>();
     let n = vectors::read_full(&mut rt.stdin(), &mut text)?;
     let mut writer = BufWriter::new(rt.alloc(), rt.stdout())?;
-    replay(&mut writer, &text[..n])?;
+    vectors::replay_lines(&mut writer, &text[..n], replay_line)?;
     writer.flush()
 }

@@ -2,14 +2,14 @@
 use Prim.Native.Nat.{ℕ, suc, ◌+◌, ◌*◌, ◌-◌, ◌/◌, ◌≤◌, ◌<◌}
 use mathlib.Core.Path.{◌≡◌, refl, sym, ap, ◌∙◌}
 use mathlib.Core.List.{List, [], ◌∷◌, ◌++◌, append-nil, append_assoc}
-use mathlib.Core.Bool.{true, false}
 use native.Mathlib.Omega.{arith}
+use Rattle.std.specs.Prelude.{Option, Some, None}
 use lib.ListN.{length, set, take, drop, length-set, take-append-drop}
 use lib.Seq.{take-suc-set, drop-set-lt, drop-drop, length-take-le}
 use Rattle.board.specs.Registers.{registers, opened, digit, interrupt_of}
 use Rattle.board.specs.declared.registers.Board.{Board}
 use Rattle.harness_board.specs.Words.{next_of}
-use Rattle.harness_board.specs.Ran.{went, halted, step_of, stepped, answered, answers_of, Ran}
+use Rattle.harness_board.specs.Ran.{went, halted, step_of, stepped, answers_of, Ran}
 use Rattle.harness_board.specs.declared.step.Step.{Step}
 
 -- What holds before each operation: those answered so far and those that follow from here are the whole list's, and the answers' rest is as it was.
@@ -56,27 +56,27 @@ module _ {ops answers₀ answers : List ℕ} {board : Board} {at done : ℕ} (g 
   unfolding answers_of
   going_full h = let z : length answers₀ / 2 - done ≡ 0 = omega arith in ended (rw z)
 
-  module _ (r : Step) (is : stepped ops r ≡ step_of (registers board) (next_of (drop at ops))) (lt : done < length answers₀ / 2) where
+  module _ (said : Option Step) (is : stepped ops said ≡ step_of (registers board) (next_of (drop at ops))) (lt : done < length answers₀ / 2) where
     one_more : length answers₀ / 2 - done ≡ suc (length answers₀ / 2 - (done + 1))
     one_more = omega arith
 
-    pub going_halt : r.going ≡ false → Ran ops answers₀ done answers
+    pub going_halt : said ≡ None → Ran ops answers₀ done answers
     unfolding answers_of
     going_halt e =
         let s : halted ≡ step_of (registers board) (next_of (drop at ops)) = rw e at is in
         ended (rw (one_more, ← s))
 
     -- an operation's two words
-    more_words : r.going ≡ true → (line : ℕ) → line ≡ digit (interrupt_of (registers r.board))
+    more_words : (r : Step) → said ≡ Some r → (line : ℕ) → line ≡ digit (interrupt_of (registers r.board))
         → answers_of (length answers₀ / 2 - done) (registers board) (drop at ops) ≡ r.answer ∷ line ∷ answers_of (length answers₀ / 2 - (done + 1)) (registers r.board) (drop r.next ops)
     unfolding answers_of
-    more_words e line le =
+    more_words r e line le =
         let here : went (record { after = registers r.board; answer = r.answer }) (drop r.next ops) ≡ step_of (registers board) (next_of (drop at ops)) = rw e at is in
         rw (one_more, ← here, le)
 
-    pub going_more : r.going ≡ true → (line : ℕ) → line ≡ digit (interrupt_of (registers r.board))
+    pub going_more : (r : Step) → said ≡ Some r → (line : ℕ) → line ≡ digit (interrupt_of (registers r.board))
         → Going ops answers₀ (set (set answers (2 * done) r.answer) (2 * done + 1) line) r.board r.next (done + 1)
-    going_more e line le =
+    going_more r e line le =
         let k = 2 * done in
         let two : 2 * (done + 1) ≡ suc (suc k) = omega arith in
         let one : k + 1 ≡ suc k = omega arith in
@@ -84,6 +84,6 @@ module _ {ops answers₀ answers : List ℕ} {board : Board} {at done : ℕ} (g 
         record {
           within = omega arith;
           kept = simp length-set g.kept;
-          ahead = rw (two, one, put_front answers k r.answer line room, append_assoc) (ap (λ (l : List ℕ). take k answers ++ l) (sym (more_words e line le)) ∙ g.ahead);
+          ahead = rw (two, one, put_front answers k r.answer line room, append_assoc) (ap (λ (l : List ℕ). take k answers ++ l) (sym (more_words r e line le)) ∙ g.ahead);
           rest = rw (two, one, put_rest answers k r.answer line room) (two_fewer answers answers₀ k g.rest);
         }

@@ -14,11 +14,10 @@ use Rattle.board.specs.Registers.{Registers, registers}
 use Rattle.board.specs.Write.{Written, write_of, written}
 use Rattle.board.specs.declared.registers.Write.{Write}
 use Rattle.harness_board.specs.Words.{Next, next, stop, write, read, all_bytes, write_in, read_in, next_by, next_of}
-use Rattle.harness_board.specs.Ran.{went, step_of, stepped}
-use Rattle.harness_board.specs.declared.step.Step.{Step}
+use Rattle.harness_board.specs.Ran.{went, halted, step_of}
 
-pub halts : (ops : List ℕ) (r : Step) (m : Registers) (n : Next) → r.going ≡ false → n ≡ stop → stepped ops r ≡ step_of m n
-halts ops r m n e h = rw (e, h)
+pub halts : (m : Registers) (n : Next) → n ≡ stop → halted ≡ step_of m n
+halts m n h = rw h
 
 pub write_short : (l : List ℕ) → length l < 2 → write_in l ≡ stop
 write_short [] h = refl

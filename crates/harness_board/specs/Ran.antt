@@ -1,5 +1,5 @@
 -- What a list of operations on a new board answers: two words each.
-use Rattle.std.specs.Prelude.{ℕ, zero, suc, ◌*◌, ◌/◌, ◌≡◌, List, [], ◌∷◌, ◌++◌, cond, length, drop}
+use Rattle.std.specs.Prelude.{ℕ, Option, Some, None, zero, suc, ◌*◌, ◌/◌, ◌≡◌, List, [], ◌∷◌, ◌++◌, length, drop}
 use Rattle.board.specs.Answer.{write_number}
 use Rattle.board.specs.Registers.{Registers, registers, opened, digit, byte_at, interrupt_of}
 use Rattle.board.specs.Write.{write_of}
@@ -27,8 +27,9 @@ step_of m (next op ws) = went (done_of m op) ws
 step_of m stop = halted
 
 -- what the program's step among the words `ops` stands for
-abbrev pub stepped : List ℕ → Step → Stepped
-stepped ops r = cond r.going (went (record { after = registers r.board; answer = r.answer }) (drop r.next ops)) halted
+abbrev pub stepped : List ℕ → Option Step → Stepped
+stepped ops None = halted
+stepped ops (Some r) = went (record { after = registers r.board; answer = r.answer }) (drop r.next ops)
 
 -- both words of a step, the second the interrupt line after it, 0 or 1, and then those of the others
 abbrev pub answered : (Registers → List ℕ → List ℕ) → Stepped → List ℕ

@@ -22,18 +22,15 @@ pub fn run_board(ops: &[u32], answers: &mut [u32]) -> usize
     let room = answers.len() / 2;
     let mut board = Board::new();
     let mut at = 0usize;
-    let mut done = 0usize;
-    while done < room {
-        let step = step_at(board, ops, at);
-        if !step.going {
+    for done in 0..room {
+        let Some(step) = step_at(board, ops, at) else {
             return done;
-        }
+        };
         let after = step.board;
         answers[2 * done] = step.answer;
         answers[2 * done + 1] = bit(after.interrupt());
         board = after;
         at = step.next;
-        done += 1;
     }
-    done
+    room
 }

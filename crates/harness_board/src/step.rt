@@ -1,20 +1,18 @@
 // One operation among the words: `0 place count byte..` a write, `1 place` a read, `2` a tick.
-ghost use Rattle.std.specs.Prelude.{◌≡◌, true, false, ◌≤◌, length, drop};
+ghost use Rattle.std.specs.Prelude.{◌≡◌, true, ◌≤◌, length, drop};
 ghost use Rattle.board.specs.Registers.{registers};
 ghost use Rattle.board.specs.Write.{write_of, written};
 ghost use Rattle.harness_board.specs.Words.{all_bytes, write_in, read_in, next_of};
 ghost use Rattle.harness_board.specs.Ran.{step_of, stepped};
 
-use board::{Board, Write, WriteOutcome};
+use board::{Board, Write, WriteRefusal};
 
-// The board after an operation, its first word and where the next operation starts. Where there is
-// no operation, or a malformed one, `going` is false and the rest is free.
+// The board after an operation, its first word and where the next operation starts.
 #[derive(Clone, Copy)]
 pub(crate) struct Step {
     pub(crate) board: Board,
     pub(crate) answer: u32,
     pub(crate) next: usize,
-    pub(crate) going: bool,
 }
 
 fn wide(word: u32) -> usize
@@ -29,26 +27,13 @@ fn word(byte: u8) -> u32
     byte as u32
 }
 
-fn halt(board: Board) -> Step
-    ensures { result.going ≡ false }
-{
-    Step {
-        board,
-        answer: 0,
-        next: 0,
-        going: false,
-    }
-}
-
 fn are_bytes(words: &[u32]) -> bool
     ensures { result ≡ all_bytes words.now }
 {
-    let mut i = 0;
-    while i < words.len() {
-        if words[i] > 255 {
+    for word in words {
+        if *word > 255 {
             return false;
         }
-        i += 1;
     }
     true
 }
@@ -58,10 +43,8 @@ fn copy_bytes(words: &[u32], bytes: &mut [u8])
     requires bytes_len { length bytes.old ≡ length words.now }
     ensures { bytes.new ≡ words.now }
 {
-    let mut i = 0;
-    while i < words.len() {
-        bytes[i] = words[i] as u8;
-        i += 1;
+    for (i, word) in words.iter().enumerate() {
+        bytes[i] = *word as u8;
     }
 }
 
@@ -84,7 +67,7 @@ fn write_words(board: Board, place: u32, words: &[u32]) -> Write
     if count > 8 {
         return Write {
             board,
-            outcome: WriteOutcome::Invalid,
+            outcome: Err(WriteRefusal::Invalid),
         };
     }
     let mut space = [0u8; 8];
@@ -92,57 +75,54 @@ fn write_words(board: Board, place: u32, words: &[u32]) -> Write
 }
 
 // The write whose place stands at `at`.
-fn write_step(board: Board, ops: &[u32], at: usize) -> Step
+fn write_step(board: Board, ops: &[u32], at: usize) -> Option<Step>
     requires { at ≤ length ops.now }
     ensures { stepped ops.now result ≡ step_of (registers board) (write_in (drop at ops.now)) }
 {
     if ops.len() - at < 2 {
-        return halt(board);
+        return None;
     }
     let place = ops[at];
     let start = at + 2;
     let count = wide(ops[at + 1]);
     if count > ops.len() - start {
-        return halt(board);
+        return None;
     }
     let next = start + count;
     let words = &ops[start..next];
     if are_bytes(words) {
         let write = write_words(board, place, words);
         let after = write.board;
-        let outcome = write.outcome;
-        return Step {
+        return Some(Step {
             board: after,
-            answer: outcome.number(),
+            answer: board::write_number(write.outcome),
             next,
-            going: true,
-        };
+        });
     }
-    halt(board)
+    None
 }
 
 // The read whose place stands at `at`.
-fn read_step(board: Board, ops: &[u32], at: usize) -> Step
+fn read_step(board: Board, ops: &[u32], at: usize) -> Option<Step>
     requires { at ≤ length ops.now }
     ensures { stepped ops.now result ≡ step_of (registers board) (read_in (drop at ops.now)) }
 {
     if at == ops.len() {
-        return halt(board);
+        return None;
     }
-    Step {
+    Some(Step {
         board,
         answer: word(board.read(ops[at])),
         next: at + 1,
-        going: true,
-    }
+    })
 }
 
-// The operation that starts at `at`.
-pub(crate) fn step_at(board: Board, ops: &[u32], at: usize) -> Step
+// The operation that starts at `at`; None where there is none, or a malformed one.
+pub(crate) fn step_at(board: Board, ops: &[u32], at: usize) -> Option<Step>
     ensures { stepped ops.now result ≡ step_of (registers board) (next_of (drop at ops.now)) }
 {
     if at >= ops.len() {
-        return halt(board);
+        return None;
     }
     let kind = ops[at];
     if kind == 0 {
@@ -154,12 +134,11 @@ pub(crate) fn step_at(board: Board, ops: &[u32], at: usize) -> Step
     if kind == 2 {
         let tick = board.tick();
         let after = tick.board;
-        return Step {
+        return Some(Step {
             board: after,
             answer: tick.sample,
             next: at + 1,
-            going: true,
-        };
+        });
     }
-    halt(board)
+    None
 }

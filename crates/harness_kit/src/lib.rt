@@ -5,7 +5,7 @@ ghost use Rattle.std.specs.Prelude.{◌≡◌};
 ghost use Rattle.dsl.specs.Kit.{style_at};
 ghost use Rattle.harness_kit.specs.Hits.{hit_draws};
 
-use dsl::{KitStyle, StyleAt};
+use dsl::KitStyle;
 
 // The draws of a hit by its style's place and its drum's number; for a style that there is not, the
 // largest usize.
@@ -14,7 +14,7 @@ pub fn hit_draws(style: u32, midi: i32, rate: u32, frames: usize) -> usize
 {
     let drum = drum::drum_of(midi);
     match KitStyle::at(style) {
-        StyleAt::Style(kit) => kit_counts::kit_draws(kit, drum, rate, frames),
-        StyleAt::NoStyle => usize::MAX,
+        Some(kit) => kit_counts::kit_draws(kit, drum, rate, frames),
+        None => usize::MAX,
     }
 }

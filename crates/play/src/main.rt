@@ -11,7 +11,6 @@ ghost use Rattle.play.specs.Input.{InputListed, ReadListed};
 use programs::{Input, input_buffer, read_input};
 use std::io;
 use std::io::{Read, Write};
-use text_reply::Reply;
 
 // No listing is longer (the law `listing_most` of text).
 fn reply_buffer() -> [u8; 32808]
@@ -27,8 +26,8 @@ fn put_listing(score: &[u8], reply: &mut [u8]) -> usize
     ensures reply_after { reply.new ≡ listing score.now ++ drop result reply.old }
 {
     match text::play_text(score, reply) {
-        Reply::Listing(length) => length,
-        Reply::Short => 0,
+        Some(length) => length,
+        None => 0,
     }
 }
 
@@ -47,6 +46,7 @@ fn list_read(score: &[u8], input: Input, reply: &mut [u8]) -> usize
 
 // Reads the input into `score` and puts its listing at the start of `reply`; the answer is how many
 // bytes of the reply are to be written. A read that fails ends it with that read's error.
+// The programs share `read_input`; what is left here is one call, and a contract that speaks of this program alone.
 fn list_input<R: Read>(input: &mut R, score: &mut [u8], reply: &mut [u8]) -> io::Result<usize>
     requires in_bounds { 65536 < length score.old }
     requires in_bounds_2 { 32808 ≤ length reply.old }

@@ -39,6 +39,7 @@ pub fn read_full<R: Read>(input: &mut R, buffer: &mut [u8]) -> io::Result<usize>
     ensures end { IfOk result (λ n. n < length buffer.new → IsAtEnd (R.remaining input.new)) }
     ensures part { OnErr result (ConsumesPart (R.remaining input.old) (R.remaining input.new) buffer.new) }
 {
+    // The plainer form, `read_exact`, fails where the input is shorter than the buffer.
     let mut done = 0;
     while done < buffer.len() {
         let n = input.read(&mut buffer[done..])?;
@@ -68,6 +69,7 @@ pub fn print_all<W: Write>(file: &mut W, bytes: &[u8]) -> io::Result<()>
     ensures all { OnOk result (Appends (W.contents file.old) (W.contents file.new) bytes.now) }
     ensures part { OnErr result (AppendsPart (W.contents file.old) (W.contents file.new) bytes.now) }
 {
+    // `write_all` would do, but its contract doesn't say what `part` does: what an error leaves.
     let mut done = 0;
     while done < bytes.len() {
         let taken = file.write(&bytes[done..])?;

@@ -9,7 +9,6 @@
 // frames at 48,000 a second through a chord, and one note held over 2,048 frames at 8,000 a second.
 #![tactic(auto)]
 
-ghost use Rattle.std.specs.Prelude.{◌≤◌, ◌<◌, length, IfOk};
 ghost use Rattle.programs.specs.Streams.{Grows};
 
 use std::io;
@@ -23,18 +22,11 @@ const FNV_PRIME: u64 = 0x0000_0100_0000_01b3;
 // The longest reply. No listing has more than 32,808 bytes.
 const MOST_REPLY: usize = 33024;
 
-fn wide(b: u8) -> u64 {
-    b as u64
-}
-
 fn hash(bytes: &[u8]) -> u64 {
-    let mut h = FNV_OFFSET;
-    let mut i = 0;
-    while i < bytes.len() {
-        h = word::wrapping_mul(h ^ wide(bytes[i]), FNV_PRIME);
-        i += 1;
-    }
-    h
+    bytes.iter().fold(
+        FNV_OFFSET,
+        |h, b| (h ^ u64::from(*b)).wrapping_mul(FNV_PRIME),
+    )
 }
 
 fn print_answer<W: Write>(writer: &mut W, line: &[u8], answer: i64, reply: &[u8]) -> io::Result<()>
@@ -66,38 +58,10 @@ fn replay_case<W: Write>(writer: &mut W, line: &[u8], text: &[u8]) -> io::Result
     call(writer, line, text, &mut space[..n])
 }
 
-// The place after the case at `at`: its line, and the bytes of its text, or as many as are left.
-fn replay_from<W: Write>(writer: &mut W, input: &[u8], at: usize) -> io::Result<usize>
-    requires { at < length input.now }
-    ensures next { IfOk result (λ next. (at < next) × (next ≤ length input.now)) }
-    ensures grows { Grows (W.contents writer.old) (W.contents writer.new) }
-{
-    let end = vectors::line_end(input, at);
-    if end == input.len() {
-        return Ok(end);
-    }
-    let start = end + 1;
-    let line = &input[at..end];
-    let length = vectors::length_field(line, 1, input.len() - start);
-    let stop = start + length;
-    replay_case(writer, line, &input[start..stop])?;
-    Ok(stop)
-}
-
-fn replay<W: Write>(writer: &mut W, input: &[u8]) -> io::Result<()>
-    ensures { Grows (W.contents writer.old) (W.contents writer.new) }
-{
-    let mut at = 0;
-    while at < input.len() {
-        at = replay_from(writer, input, at)?;
-    }
-    Ok(())
-}
-
 fn main(rt: HostRuntime) -> io::Result<()> {
-    let mut input = vectors::input_buffer();
+    let mut input = vectors::buffer::<524288>();
     let n = vectors::read_full(&mut rt.stdin(), &mut input)?;
     let mut writer = BufWriter::new(rt.alloc(), rt.stdout())?;
-    replay(&mut writer, &input[..n])?;
+    vectors::replay_cases(&mut writer, &input[..n], replay_case)?;
     writer.flush()
 }

@@ -13,8 +13,7 @@ ghost use Rattle.std.specs.Prelude.{◌≤◌};
 ghost use Rattle.programs.specs.Streams.{Grows};
 
 use dsl::{Adsr, SeqVoice};
-use outcome::Outcome;
-use raw_knobs::{EnvAt, VoiceAt};
+use outcome::Refusal;
 use score::{Seq, Timing};
 use session::Session;
 use std::io;
@@ -31,57 +30,20 @@ const STATIONS: usize = 8;
 // What the draws hold before a call, and after one that is not made.
 const DRAWS_BEFORE: u64 = 0x5555;
 
-// The floats of the fields from `from` on.
-fn floats(line: &[u8], from: usize) -> [f32; 64]
-    requires { from ≤ 1024 }
-{
-    let mut out = [0.0f32; 64];
-    let mut i = 0;
-    while i < MOST {
-        out[i] = vectors::f32_field(line, from + i);
-        i += 1;
-    }
-    out
-}
-
-fn words(line: &[u8], from: usize) -> [u32; 64]
-    requires { from ≤ 1024 }
-{
-    let mut out = [0u32; 64];
-    let mut i = 0;
-    while i < MOST {
-        out[i] = vectors::u32_field(line, from + i);
-        i += 1;
-    }
-    out
-}
-
-fn point_words(line: &[u8], from: usize) -> [u32; 264]
-    requires { from ≤ 1024 }
-{
-    let mut out = [0u32; 264];
-    let mut i = 0;
-    while i < MOST_POINTS {
-        out[i] = vectors::u32_field(line, from + i);
-        i += 1;
-    }
-    out
-}
-
-fn voice_of(line: &[u8]) -> VoiceAt {
+fn voice_of(line: &[u8]) -> Option<SeqVoice> {
     let count = vectors::length_field(line, 11, MOST);
     let bar_count = vectors::length_field(line, 18, MOST);
     let wave = vectors::u32_field(line, 6);
     let style = vectors::u32_field(line, 19);
-    let values = floats(line, 20);
-    let bars = floats(line, 20 + count);
+    let values = vectors::numbers::<f32, MOST>(line, 20);
+    let bars = vectors::numbers::<f32, MOST>(line, 20 + count);
     raw_knobs::voice_at(wave, style, &values[..count], &bars[..bar_count])
 }
 
-fn env_of(line: &[u8]) -> EnvAt {
+fn env_of(line: &[u8]) -> Option<Adsr> {
     let from = 20 + vectors::length_field(line, 11, MOST) + vectors::length_field(line, 18, MOST);
     let count = vectors::length_field(line, 12, MOST);
-    let values = floats(line, from);
+    let values = vectors::numbers::<f32, MOST>(line, from);
     raw_knobs::env_at(&values[..count])
 }
 
@@ -94,7 +56,7 @@ fn map_of(line: &[u8]) -> TempoMap {
         + vectors::length_field(line, 13, MOST)
         + vectors::length_field(line, 14, MOST);
     let count = vectors::length_field(line, 15, MOST_POINTS);
-    let values = point_words(line, from);
+    let values = vectors::numbers::<u32, MOST_POINTS>(line, from);
     raw_map::map_of(&values[..count])
 }
 
@@ -116,15 +78,15 @@ fn seq_of(line: &[u8], voice: SeqVoice, env: Adsr) -> Seq {
     }
 }
 
-fn print_outcome<W: Write>(writer: &mut W, outcome: Outcome) -> io::Result<()>
+fn print_outcome<W: Write>(writer: &mut W, outcome: Result<u64, Refusal>) -> io::Result<()>
     ensures { Grows (W.contents writer.old) (W.contents writer.new) }
 {
     match outcome {
-        Outcome::Played(draws) => {
+        Ok(draws) => {
             vectors::print_u64(writer, 0)?;
             vectors::print_u64(writer, draws)?;
         }
-        Outcome::Refused(refusal) => {
+        Err(refusal) => {
             vectors::print_u64(writer, refusal.number() as u64)?;
             vectors::print_u64(writer, 0)?;
         }
@@ -135,25 +97,7 @@ fn print_outcome<W: Write>(writer: &mut W, outcome: Outcome) -> io::Result<()>
 fn print_counts<W: Write>(writer: &mut W, session: Session) -> io::Result<()>
     ensures { Grows (W.contents writer.old) (W.contents writer.new) }
 {
-    let counts = session.draws;
-    let mut k = 0;
-    while k < STATIONS {
-        vectors::print_u64(writer, counts[k])?;
-        k += 1;
-    }
-    Ok(())
-}
-
-fn print_frames<W: Write>(writer: &mut W, out: &[f32; 64], n: usize) -> io::Result<()>
-    requires { n ≤ 64 }
-    ensures { Grows (W.contents writer.old) (W.contents writer.new) }
-{
-    let mut i = 0;
-    while i < n {
-        vectors::print_f32(writer, out[i])?;
-        i += 1;
-    }
-    Ok(())
+    vectors::print_values(writer, &session.draws)
 }
 
 // The frames before a call: ones, where a call without notes leaves zeros.
@@ -194,7 +138,7 @@ fn call<W: Write>(
     print_outcome(writer, outcome)?;
     vectors::print_u64(writer, rng.state())?;
     print_counts(writer, after)?;
-    print_frames(writer, &out, n)?;
+    vectors::print_values(writer, &out[..n])?;
     Ok(after)
 }
 
@@ -208,8 +152,8 @@ fn score<W: Write>(writer: &mut W, line: &[u8], session: Session, seq: Seq) -> i
         + vectors::length_field(line, 11, MOST)
         + vectors::length_field(line, 18, MOST)
         + vectors::length_field(line, 12, MOST);
-    let notes = words(line, words_at);
-    let lane = floats(line, words_at + word_count);
+    let notes = vectors::numbers::<u32, MOST>(line, words_at);
+    let lane = vectors::numbers::<f32, MOST>(line, words_at + word_count);
     call(
         writer,
         line,
@@ -228,17 +172,17 @@ fn no_call<W: Write>(writer: &mut W, line: &[u8], session: Session) -> io::Resul
     vectors::print_u64(writer, DRAWS_BEFORE)?;
     vectors::print_u64(writer, 0)?;
     print_counts(writer, session)?;
-    print_frames(writer, &frames(), vectors::length_field(line, 8, 64))?;
+    vectors::print_values(writer, &frames()[..vectors::length_field(line, 8, 64)])?;
     Ok(session)
 }
 
 fn score_line<W: Write>(writer: &mut W, line: &[u8], session: Session) -> io::Result<Session>
     ensures { Grows (W.contents writer.old) (W.contents writer.new) }
 {
-    let VoiceAt::Voice(voice) = voice_of(line) else {
+    let Some(voice) = voice_of(line) else {
         return no_call(writer, line, session);
     };
-    let EnvAt::Env(env) = env_of(line) else {
+    let Some(env) = env_of(line) else {
         return no_call(writer, line, session);
     };
     if vectors::u32_field(line, 15) % 4 != 0 {
@@ -252,10 +196,8 @@ fn each_second(line: &[u8], from: usize) -> [u64; 8]
     requires { from ≤ 2 }
 {
     let mut out = [0u64; 8];
-    let mut k = 0;
-    while k < STATIONS {
-        out[k] = vectors::u64_field(line, from + 2 * k);
-        k += 1;
+    for (k, x) in out.iter_mut().enumerate() {
+        *x = vectors::u64_field(line, from + 2 * k);
     }
     out
 }
@@ -263,12 +205,10 @@ fn each_second(line: &[u8], from: usize) -> [u64; 8]
 fn print_states<W: Write>(writer: &mut W, session: Session) -> io::Result<()>
     ensures { Grows (W.contents writer.old) (W.contents writer.new) }
 {
-    let mut k = 0;
-    while k < STATIONS {
+    for k in 0..STATIONS {
         let station = session.station(k);
         let rng = station.rng;
         vectors::print_u64(writer, rng.state())?;
-        k += 1;
     }
     Ok(())
 }
@@ -284,7 +224,8 @@ fn open<W: Write>(writer: &mut W, line: &[u8]) -> io::Result<Session>
     Ok(session)
 }
 
-fn replay_line<W: Write>(writer: &mut W, line: &[u8], session: Session) -> io::Result<Session>
+// The session after the line, which is answered.
+fn answer_line<W: Write>(writer: &mut W, line: &[u8], session: Session) -> io::Result<Session>
     ensures { Grows (W.contents writer.old) (W.contents writer.new) }
 {
     vectors::print_text(writer, line)?;
@@ -294,27 +235,22 @@ fn replay_line<W: Write>(writer: &mut W, line: &[u8], session: Session) -> io::R
     score_line(writer, line, session)
 }
 
-fn replay<W: Write>(writer: &mut W, text: &[u8]) -> io::Result<()>
+fn replay_line<W: Write>(writer: &mut W, line: &[u8], session: Session) -> io::Result<Session>
     ensures { Grows (W.contents writer.old) (W.contents writer.new) }
 {
-    let mut session = Session::open(0, 0);
-    let mut at = 0;
-    while at < text.len() {
-        let end = vectors::line_end(text, at);
-        session = replay_line(writer, &text[at..end], session)?;
-        vectors::print_text(writer, b"\n")?;
-        if end == text.len() {
-            return Ok(());
-        }
-        at = end + 1;
-    }
-    Ok(())
+    let after = answer_line(writer, line, session)?;
+    vectors::print_text(writer, b"\n")?;
+    Ok(after)
 }
 
 fn main(rt: HostRuntime) -> io::Result<()> {
-    let mut text = vectors::input_buffer();
+    let mut text = vectors::buffer::<524288>();
     let n = vectors::read_full(&mut rt.stdin(), &mut text)?;
     let mut writer = BufWriter::new(rt.alloc(), rt.stdout())?;
-    replay(&mut writer, &text[..n])?;
+    let mut session = Session::open(0, 0);
+    vectors::replay_lines(&mut writer, &text[..n], |writer, line| {
+        session = replay_line(writer, line, session)?;
+        Ok(())
+    })?;
     writer.flush()
 }

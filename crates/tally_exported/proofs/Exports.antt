@@ -11,13 +11,12 @@ use Rattle.rng.specs.SplitMix64.{state_after}
 use Rattle.dsl.specs.declared.knobs.Adsr.{Adsr}
 use Rattle.dsl.specs.declared.knobs.SeqVoice.{SeqVoice}
 use Rattle.outcome.specs.Answer.{Result, refused, accepted, unless, seen, number_of, number_of_result, reported, out_after}
-use Rattle.outcome.specs.declared.answer.Outcome.{Outcome}
-use Rattle.outcome.specs.declared.answer.Outcome.TheVariants.{Played, Refused}
+use Rattle.outcome.specs.Outcome.{Outcome}
+use Rattle.std.specs.Prelude.{Ok, Err, Some, None}
 use Rattle.outcome.specs.declared.answer.Refusal.{Refusal}
 use Rattle.outcome.specs.declared.answer.Refusal.TheVariants.{NoStation, Rate, Frames, Tempo, StepsPerBeat, Tone, TempoPoints, TempoOrder, Groove, Knobs, Hop, Words}
 use Rattle.outcome.specs.declared.answer.Refusal.TheVariants.{Kind, Steps, Size, Lane, Reach, NoPitch, Lengths, NoteBuffer, StringBuffer, Draws}
-use Rattle.outcome.specs.declared.answer.Verdict.{Verdict}
-use Rattle.outcome.specs.declared.answer.Verdict.TheVariants.{Fine, Refuse}
+use Rattle.outcome.specs.Outcome.{Verdict}
 use Rattle.session.specs.Opened.{seed_in, count_in, station_in}
 use Rattle.session.specs.declared.session.Session.{Session}
 use Rattle.session.specs.declared.station.Station.{Station}
@@ -28,9 +27,7 @@ use Rattle.score_contract.specs.Frames.{score_frames}
 use Rattle.score_contract.specs.ScoreCall.{Event, score_in, result_of}
 use Rattle.score_contract.specs.SessionCall.{SessionEvent, SessionScored, on_station, result_at, session_after}
 use Rattle.raw_call.specs.Called.{made, free_after_call, Holds}
-use Rattle.raw_call.specs.Raw.{session_by, session_in, seq_with, parts_in}
-use Rattle.raw_call.specs.declared.raw.Parts.{Parts}
-use Rattle.raw_call.specs.declared.raw.Parts.TheVariants.{Both, Nothing}
+use Rattle.raw_call.specs.Raw.{Parts, session_by, session_in, seq_with, parts_in}
 use Rattle.tono_seq.specs.Score.{ScoreExport, score_with, score_called_on, counts_after_call, ScoreExported}
 use Rattle.tally.specs.Claim.{seen_in}
 use Rattle.tally.specs.Stations.{Runs, no_call, next_call, own_calls}
@@ -66,8 +63,8 @@ some_number Draws = refl
 
 told : (o : Outcome) (out : List Float) (number draws : ℕ) → number ≡ number_of_result (seen o out) → draws ≡ reported (seen o out)
     → cond (eqb number 0) (accepted draws out) (refused number) ≡ seen o out
-told (Played D) out number draws n d = λ j. cond (eqb (n j) 0) (accepted (d j) out) (refused (n j))
-told (Refused r) out number draws n d = (λ j. cond (eqb (n j) 0) (accepted draws out) (refused (n j))) ∙ ap (λ (t : Bool). cond t (accepted draws out) (refused (number_of r))) (some_number r)
+told (Ok D) out number draws n d = λ j. cond (eqb (n j) 0) (accepted (d j) out) (refused (n j))
+told (Err r) out number draws n d = (λ j. cond (eqb (n j) 0) (accepted draws out) (refused (n j))) ∙ ap (λ (t : Bool). cond t (accepted draws out) (refused (number_of r))) (some_number r)
 
 -- an answer that is seen as a result
 record SeenAs (r : Result) (out : List Float) : Type 0 where
@@ -75,12 +72,12 @@ record SeenAs (r : Result) (out : List Float) : Type 0 where
   pub is : seen outcome out ≡ r
 
 by_verdict : (v : Verdict) (D : ℕ) (fs out₀ out : List Float) → out ≡ out_after out₀ (unless v (accepted D fs)) → SeenAs (unless v (accepted D fs)) out
-by_verdict Fine D fs out₀ out e = record { outcome = Played D; is = ap (accepted D) e }
-by_verdict (Refuse why) D fs out₀ out e = record { outcome = Refused why; is = refl }
+by_verdict (Ok _) D fs out₀ out e = record { outcome = Ok D; is = ap (accepted D) e }
+by_verdict (Err why) D fs out₀ out e = record { outcome = Err why; is = refl }
 
 by_station : (t : Bool) (v : Verdict) (D : ℕ) (fs out₀ out : List Float) → out ≡ out_after out₀ (cond t (refused (number_of NoStation)) (unless v (accepted D fs)))
     → SeenAs (cond t (refused (number_of NoStation)) (unless v (accepted D fs))) out
-by_station true v D fs out₀ out e = record { outcome = Refused NoStation; is = refl }
+by_station true v D fs out₀ out e = record { outcome = Err NoStation; is = refl }
 by_station false v D fs out₀ out e = by_verdict v D fs out₀ out e
 
 seen_as : (a : Session) (k : ℕ) (s : Score) (out₀ out : List Float) → out ≡ out_after out₀ (result_at a k s) → SeenAs (result_at a k s) out
@@ -113,7 +110,7 @@ left_session a k (refused number) counts e = λ j. record { seeds = a.seeds; dra
 left_session a k (accepted draws frames) counts e = λ j. record { seeds = a.seeds; draws = e j }
 
 module _ (e : ScoreExport) (ex : ScoreExported e) where
-  module _ (v : SeqVoice) (m : Adsr) (is : parts_in e.raw ≡ Both v m) where
+  module _ (v : SeqVoice) (m : Adsr) (is : parts_in e.raw ≡ Some (v, m)) where
     abbrev a : Session
     a = session_in e.raw
 
@@ -178,10 +175,10 @@ cond_same false ys = refl
 step : {seeds c d : List ℕ} {es : List ScoreExport} (e : ScoreExport) → e.raw.seeds ≡ seeds → e.raw.counts ≡ c → ScoreExported e → Translated seeds e.counts es d → (p : Parts)
     → parts_in e.raw ≡ p → Translated seeds c (e ∷ es) d
 unfolding own_calls own_made
-step {seeds} {c} {d} {es} e se ce ex t (Both v m) is =
+step {seeds} {c} {d} {es} e se ce ex t (Some (v, m)) is =
     let ev = event e ex v m is in
     let rest = subst (λ (l : List ℕ). Runs (session_by l e.counts) t.calls (session_by seeds d)) (sym se) t.runs in
-    let own : (k : ℕ) → own_made k (e ∷ es) ≡ cond (eqb e.station k) (made_on (Both v m) e (own_made k es)) (own_made k es)
+    let own : (k : ℕ) → own_made k (e ∷ es) ≡ cond (eqb e.station k) (made_on (Some (v, m)) e (own_made k es)) (own_made k es)
     = λ k. ap (λ (p : Parts). cond (eqb e.station k) (made_on p e (own_made k es)) (own_made k es)) is in
     record {
       calls = ev ∷ t.calls;
@@ -191,7 +188,7 @@ step {seeds} {c} {d} {es} e se ce ex t (Both v m) is =
           more_seens (eqb e.station k) (on_station ev) (own_calls k t.calls) _ (own_made k es) ((answered e ex v m is).is ∙ sym (told_is e ex v m is)) (t.seens k)
           ∙ ap (map seen_made) (sym (own k));
     }
-step {seeds} {c} {d} {es} e se ce ex t Nothing is =
+step {seeds} {c} {d} {es} e se ce ex t None is =
     let stayed : e.counts ≡ e.raw.counts = subst (λ (p : Parts). e.counts ≡ counts_after_call (session_in e.raw) e.station (score_called_on p e)) is ex.counts in
     let own : (k : ℕ) → own_made k (e ∷ es) ≡ own_made k es
     = λ k. ap (λ (p : Parts). cond (eqb e.station k) (made_on p e (own_made k es)) (own_made k es)) is ∙ sym (cond_same (eqb e.station k) (own_made k es)) in
@@ -208,7 +205,7 @@ translated no_export = record { calls = []; runs = no_call; scores = λ k. refl;
 translated (next_export e se ce ex rest) = step e se ce ex (translated rest) (parts_in e.raw) refl
 
 none_named : {seeds c d : List ℕ} (es : List ScoreExport) (e : ScoreExport) (es' : List ScoreExport) → RunsExported seeds c (es ++ e ∷ es') d → 7 < e.station
-    → (v : SeqVoice) (m : Adsr) → parts_in e.raw ≡ Both v m → seen_of e ≡ refused 33
+    → (v : SeqVoice) (m : Adsr) → parts_in e.raw ≡ Some (v, m) → seen_of e ≡ refused 33
 none_named [] e es' (next_export _ se ce ex rest) past v m is = told_nowhere e ex v m is past
 none_named (x ∷ xs) e es' (next_export _ se ce ex rest) past v m is = none_named xs e es' rest past v m is
 

@@ -1,12 +1,10 @@
 -- Demand 3 of the score calls that hosts make: lists of `tono_render_seq`, with the seeds and the counts that the host keeps.
-use Rattle.std.specs.Prelude.{ℕ, ◌+◌, ◌<◌, ◌≡◌, List, [], ◌∷◌, ◌++◌, map, cond, eqb, get_or}
+use Rattle.std.specs.Prelude.{ℕ, ◌+◌, ◌<◌, ◌≡◌, List, [], ◌∷◌, ◌++◌, map, cond, eqb, get_or, Some, None}
 use Rattle.outcome.specs.Answer.{Result, refused, accepted}
 use Rattle.dsl.specs.declared.knobs.Adsr.{Adsr}
 use Rattle.dsl.specs.declared.knobs.SeqVoice.{SeqVoice}
 use Rattle.score.specs.Score.{Score}
-use Rattle.raw_call.specs.Raw.{seq_with, parts_in}
-use Rattle.raw_call.specs.declared.raw.Parts.{Parts}
-use Rattle.raw_call.specs.declared.raw.Parts.TheVariants.{Both, Nothing}
+use Rattle.raw_call.specs.Raw.{Parts, seq_with, parts_in}
 use Rattle.tono_seq.specs.Score.{ScoreExport, score_with, ScoreExported}
 use Rattle.tally.specs.Tally.{tally, total, drawn_by}
 
@@ -34,8 +32,8 @@ seen_made m = m.seen
 
 -- a call whose numbers stand for no voice, no envelope or no session makes no score call (4294967295)
 abbrev pub made_on : Parts → ScoreExport → List Made → List Made
-made_on (Both v a) e rest = record { score = score_with (seq_with v a e.raw) e; seen = seen_of e } ∷ rest
-made_on Nothing e rest = rest
+made_on (Some (v, a)) e rest = record { score = score_with (seq_with v a e.raw) e; seen = seen_of e } ∷ rest
+made_on None e rest = rest
 
 -- the score calls of a list that name station k, in their order
 unfoldable pub own_made : ℕ → List ScoreExport → List Made
@@ -49,4 +47,4 @@ pub record ExportsAgree (seeds c : List ℕ) (es : List ScoreExport) (d : List �
   pub ends : (k : ℕ) → k < 8 → get_or d k 0 ≡ get_or c k 0 + drawn_by (get_or seeds k 0) (get_or c k 0) (map score_made (own_made k es))
   pub reports : (k : ℕ) → k < 8 → total (map seen_made (own_made k es)) ≡ drawn_by (get_or seeds k 0) (get_or c k 0) (map score_made (own_made k es))
   pub nowhere : (es₁ : List ScoreExport) (e : ScoreExport) (es₂ : List ScoreExport) → es ≡ es₁ ++ e ∷ es₂ → 7 < e.station
-      → (v : SeqVoice) (a : Adsr) → parts_in e.raw ≡ Both v a → seen_of e ≡ refused 33
+      → (v : SeqVoice) (a : Adsr) → parts_in e.raw ≡ Some (v, a) → seen_of e ≡ refused 33

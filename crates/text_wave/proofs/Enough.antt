@@ -7,8 +7,8 @@ use borrow.Author.Tests.{le-ltb}
 use lib.Ieee.{Float}
 use lib.ListN.{length, length-map}
 use Rattle.outcome.specs.Answer.{accepted, unless}
-use Rattle.outcome.specs.declared.answer.Verdict.{Verdict}
-use Rattle.outcome.specs.declared.answer.Verdict.TheVariants.{Fine, Refuse}
+use Rattle.outcome.specs.Outcome.{Verdict}
+use Rattle.std.specs.Prelude.{Ok, Err}
 use Rattle.score.specs.Score.{note_count, score_draws}
 use Rattle.score.specs.Refusals.{refusal_at}
 use Rattle.score.specs.declared.seq.Seq.{Seq}
@@ -36,8 +36,8 @@ module _ (room : ℕ) (h : 8250 ≤ room) where
 
   result_enough : (rate : ℕ) (v : Verdict) (D : ℕ) (frames : List Float) → length frames ≤ 2048
       → result_file rate room (unless v (accepted D frames)) ≡ result_file rate 8250 (unless v (accepted D frames))
-  result_enough rate Fine D frames few = written_enough rate (map frame_bits frames) (omega (arith, length-map frames frame_bits))
-  result_enough rate (Refuse r) D frames few = refl
+  result_enough rate (Ok _) D frames few = written_enough rate (map frame_bits frames) (omega (arith, length-map frames frame_bits))
+  result_enough rate (Err r) D frames few = refl
 
   played_enough : (seq : Seq) (notes : List ℕ) (n seed draw : ℕ) → n ≤ 2048 → played_file seq notes n seed draw room ≡ played_file seq notes n seed draw 8250
   unfolding played_file tally tallied

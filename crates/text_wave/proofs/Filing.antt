@@ -17,30 +17,25 @@ use Rattle.text_read.specs.Text.{seq_of, text_of}
 use Rattle.text_read.specs.declared.text.TextScore.{TextScore}
 use Rattle.text_judge.specs.Call.{call_of}
 use Rattle.text_judge.specs.Judged.{Judges}
-use Rattle.text_judge.specs.declared.judge.Judged.{Judged}
-use Rattle.text_judge.specs.declared.judge.Judged.TheVariants as judgement
+use Rattle.std.specs.Prelude.{Result, Err, Ok}
 use Rattle.text_judge.proofs.Past.{Past, judged_refused}
 use Rattle.wave_file.specs.Refusal.{FileResult, refused, part_of, number_of}
 use Rattle.wave_file.specs.declared.refusal.FileRefusal.{FileRefusal}
 use Rattle.wave_write.specs.Write.{write_result, written_in, file_after, Wrote}
-use Rattle.wave_write.specs.declared.write.Written.{Written}
-use Rattle.wave_write.specs.declared.write.Written.TheVariants as written
 use Rattle.text_wave.specs.TextFile.{result_file, one_file, played_file, file_read, text_file, Filed}
-use Rattle.text_wave.specs.declared.frames.TextWave.{TextWave}
-use Rattle.text_wave.specs.declared.frames.TextWave.TheVariants.{Bytes, Refused}
 
 -- ---- what was written
-module _ {rate : ℕ} {samples file₀ file : List ℕ} {said : Written} (w : Wrote rate samples file₀ said file) where
-  pub filed_bytes : (n : ℕ) → said ≡ written.Bytes n → Filed (write_result rate samples (length file₀)) file₀ (Bytes n) file
+module _ {rate : ℕ} {samples file₀ file : List ℕ} {said : Result ℕ FileRefusal} (w : Wrote rate samples file₀ said file) where
+  pub filed_bytes : (n : ℕ) → said ≡ Ok n → Filed (write_result rate samples (length file₀)) file₀ (Ok n) file
   filed_bytes n e = record { answer = ap written_in (sym e) ∙ w.answer; bytes = w.bytes }
 
-  pub filed_refusal : (r : FileRefusal) → said ≡ written.Refused r → {k : ℕ} → k ≡ number_of r → Filed (write_result rate samples (length file₀)) file₀ (Refused k) file
+  pub filed_refusal : (r : FileRefusal) → said ≡ Err r → {k : ℕ} → k ≡ number_of r → Filed (write_result rate samples (length file₀)) file₀ (Err k) file
   filed_refusal r e i = record { answer = ap refused i ∙ ap written_in (sym e) ∙ w.answer; bytes = w.bytes }
 
-pub filed_none : {file₀ : List ℕ} (number : ℕ) {result : FileResult (List ℕ)} → refused number ≡ result → Filed result file₀ (Refused number) file₀
+pub filed_none : {file₀ : List ℕ} (number : ℕ) {result : FileResult (List ℕ)} → refused number ≡ result → Filed result file₀ (Err number) file₀
 filed_none {file₀} number e = record { answer = ap (part_of length) e; bytes = ap (file_after file₀) e }
 
-pub filed_as : {r s : FileResult (List ℕ)} {file₀ file : List ℕ} {said : TextWave} → r ≡ s → Filed r file₀ said file → Filed s file₀ said file
+pub filed_as : {r s : FileResult (List ℕ)} {file₀ file : List ℕ} {said : Result ℕ ℕ} → r ≡ s → Filed r file₀ said file → Filed s file₀ said file
 filed_as e f = rw e at f
 
 -- ---- the one call
@@ -54,7 +49,7 @@ played_by seq notes n seed draw room a e opened first scored is =
     ap (one_file rate room) all.results ∙ ap (λ (s : Score). one_file rate room (tally seed draw (s ∷ [])).results) is
 
 -- ---- which file a text has that was judged
-pub file_refused : {text words₀ words : List ℕ} {r : Judged} (room : ℕ) (h : Judges text words₀ r words) {n : ℕ} → r ≡ judgement.Refused n → refused n ≡ text_file text room
+pub file_refused : {text words₀ words : List ℕ} {r : Result TextScore ℕ} (room : ℕ) (h : Judges text words₀ r words) {n : ℕ} → r ≡ Err n → refused n ≡ text_file text room
 unfolding text_file
 file_refused {text} room h is = judged_refused h refused (file_read room (text_of text)) is
 

@@ -1,5 +1,6 @@
 -- The WAVE file of a text score: its frames, a NaN as 7fc00000, at its rate. A refused score has none.
-use Rattle.std.specs.Prelude.{ℕ, ◌≡◌, List, [], ◌∷◌, map, length}
+use Rattle.std.specs.Prelude.{ℕ, ◌≡◌, List, [], ◌∷◌, map, length, Err, Ok}
+use Rattle.std.specs.Prelude as std
 use Rattle.outcome.specs.Answer.{Result}
 use Rattle.outcome.specs.Answer as answer
 use Rattle.score.specs.declared.seq.Seq.{Seq}
@@ -11,8 +12,6 @@ use Rattle.text_judge.specs.Call.{call_of}
 use Rattle.text_judge.specs.Refusal.{text_refusal, unless_refused}
 use Rattle.wave_file.specs.Refusal.{FileResult, refused, accepted, part_of}
 use Rattle.wave_write.specs.Write.{write_result, file_after}
-use Rattle.text_wave.specs.declared.frames.TextWave.{TextWave}
-use Rattle.text_wave.specs.declared.frames.TextWave.TheVariants.{Bytes, Refused}
 
 -- a score call's result, written into a buffer of `room` bytes
 abbrev pub result_file : ℕ → ℕ → Result → FileResult (List ℕ)
@@ -37,11 +36,11 @@ unfoldable pub text_file : List ℕ → ℕ → FileResult (List ℕ)
 text_file text room = unless_refused refused (text_refusal text) (file_read room (text_of text))
 
 -- the number or the length that an answer gives
-abbrev pub said_in : TextWave → FileResult ℕ
-said_in (Bytes n) = accepted n
-said_in (Refused number) = refused number
+abbrev pub said_in : std.Result ℕ ℕ → FileResult ℕ
+said_in (Ok n) = accepted n
+said_in (Err number) = refused number
 
 -- The contract of writing such a file into `file₀`, which is left as `file`.
-pub record Filed (result : FileResult (List ℕ)) (file₀ : List ℕ) (said : TextWave) (file : List ℕ) : Type 0 where
+pub record Filed (result : FileResult (List ℕ)) (file₀ : List ℕ) (said : std.Result ℕ ℕ) (file : List ℕ) : Type 0 where
   pub answer : said_in said ≡ part_of length result
   pub bytes : file ≡ file_after file₀ result

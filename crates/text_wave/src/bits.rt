@@ -9,10 +9,9 @@ pub(crate) fn put_bits(frames: &[f32], bits: &mut [u32])
     requires { length frames.now ≤ length bits.old }
     ensures { bits.new ≡ map frame_bits frames.now ++ drop (length frames.now) bits.old }
 {
-    let mut i = 0;
-    while i < frames.len() {
+    // A range, not `enumerate`: the edit `first_frame_skipped` starts it at 1, and is refused by the invariant, not by a name.
+    for i in 0..frames.len() {
         bits[i] = frame_bits(frames[i]);
-        i += 1;
     }
 }
 

@@ -5,16 +5,8 @@ ghost use Rattle.wave_write.specs.Write.{write_result};
 ghost use Rattle.text_wave.specs.TextFile.{Filed};
 
 use crate::bits::{bits_buffer, put_bits};
-use wave_write::Written;
 
-// The file's length, or the number of what refused it.
-#[derive(Clone, Copy)]
-pub enum TextWave {
-    Bytes(usize),
-    Refused(u32),
-}
-
-pub(crate) fn write_frames(rate: u32, frames: &[f32], file: &mut [u8]) -> TextWave
+pub(crate) fn write_frames(rate: u32, frames: &[f32], file: &mut [u8]) -> Result<usize, u32>
     requires { length frames.now ≤ 2048 }
     ensures { Filed (write_result rate (map frame_bits frames.now) (length file.old)) file.old result file.new }
 {
@@ -22,7 +14,7 @@ pub(crate) fn write_frames(rate: u32, frames: &[f32], file: &mut [u8]) -> TextWa
     put_bits(frames, &mut bits);
     let n = frames.len();
     match wave_write::write_wave(rate, &bits[..n], file) {
-        Written::Bytes(length) => TextWave::Bytes(length),
-        Written::Refused(refusal) => TextWave::Refused(refusal.number()),
+        Ok(length) => Ok(length),
+        Err(refusal) => Err(refusal.number()),
     }
 }

@@ -7,4 +7,3 @@ mod frames; // frames.rt: frames as a file
 mod play; // play.rt: the score call of a text score
 
 pub use call::wave_text;
-pub use frames::TextWave;

@@ -24,5 +24,5 @@ pub extern "C" fn tono_play(score: &[u8], reply: &mut [u8]) -> i64
     ensures { Answered score.now reply.old result reply.new }
 {
     let said = text::play_text(score, reply);
-    said.as_i64()
+    text_reply::reply_as_i64(said)
 }

@@ -10,8 +10,7 @@ use Rattle.note.specs.declared.answer.NoteAnswer.{NoteAnswer}
 use Rattle.raw_knobs.specs.Knobs.{voice_at}
 use Rattle.raw_call.specs.Called.{Called, none, made, state_after_result, state_after_call, Places, Holds}
 use Rattle.tono_seq.specs.Note.{NoteExport, NoteExported, handed_with, note_called_with, note_called}
-use Rattle.raw_knobs.specs.declared.VoiceAt.{VoiceAt}
-use Rattle.raw_knobs.specs.declared.VoiceAt.TheVariants.{Voice, Nothing}
+use Rattle.std.specs.Prelude.{None, Option, Some}
 use Rattle.raw_call.proofs.Ends.{Returned, made_holds}
 
 -- the note call that was made, with the voice v and the generator g; a is its answer
@@ -41,15 +40,15 @@ module _ (e : NoteExport) where
   exported : (x : Called) → note_called e ≡ x → Holds x p → e.state ≡ state_after_call e.state₀ x → NoteExported e
   exported x q h s = record { places = rw q h; state = rw q s }
 
-  pub not_called : Nothing ≡ voice_at e.wave e.style e.knobs e.bars → Holds none p → e.state ≡ e.state₀ → NoteExported e
-  not_called v = exported none (ap (λ (x : VoiceAt). note_called_with x e) (sym v))
+  pub not_called : None ≡ voice_at e.wave e.style e.knobs e.bars → Holds none p → e.state ≡ e.state₀ → NoteExported e
+  not_called v = exported none (ap (λ (x : Option SeqVoice). note_called_with x e) (sym v))
 
-  module _ (v : SeqVoice) (g : Rng) (a : NoteAnswer) (voice : Voice v ≡ voice_at e.wave e.style e.knobs e.bars) (state : g.0 ≡ e.state₀) (call : Voiced (call_of e v g a)) where
+  module _ (v : SeqVoice) (g : Rng) (a : NoteAnswer) (voice : Some v ≡ voice_at e.wave e.style e.knobs e.bars) (state : g.0 ≡ e.state₀) (call : Voiced (call_of e v g a)) where
     abbrev result : Result
     result = note_result_in (call_of e v g a)
 
     called : note_called e ≡ made result
-    called = ap (λ (x : VoiceAt). note_called_with x e) (sym voice) ∙ ap (λ (s : ℕ). made (note_result_of (handed_with v e) s)) (sym state)
+    called = ap (λ (x : Option SeqVoice). note_called_with x e) (sym voice) ∙ ap (λ (s : ℕ). made (note_result_of (handed_with v e) s)) (sym state)
 
     returned : Returned p result a.outcome
     returned = record { answer = call.answer; frames = call.frames; string = call.string }

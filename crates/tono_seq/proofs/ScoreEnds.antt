@@ -1,4 +1,5 @@
 -- The ways in which `render_seq` ends. Assumes nothing.
+use Rattle.std.specs.Prelude.{Some, None}
 use Prim.Native.Nat.{ℕ, ◌<◌}
 use mathlib.Core.Path.{◌≡◌, refl, sym, ap, ◌∙◌}
 use mathlib.Core.List.{[]}
@@ -18,11 +19,9 @@ use Rattle.session.specs.Opened.{count_in, Eight}
 use Rattle.session.specs.declared.session.Session.{Session}
 use Rattle.session.specs.declared.session.Answer.{Answer}
 use Rattle.raw_call.specs.Called.{Called, none, made, free_after_call, Places, Holds}
-use Rattle.raw_call.specs.Raw.{session_in, seq_with, parts_in}
+use Rattle.raw_call.specs.Raw.{Parts, session_in, seq_with, parts_in}
 use Rattle.tono_seq.specs.Score.{ScoreExport, counts_after_call, ScoreExported, score_called_on, score_called}
 use Rattle.raw_call.specs.Stations.{placed}
-use Rattle.raw_call.specs.declared.raw.Parts.{Parts}
-use Rattle.raw_call.specs.declared.raw.Parts.TheVariants.{Both, Nothing}
 use Rattle.raw_call.proofs.Ends.{Returned, made_holds}
 use Rattle.raw_call.proofs.Whole.{call_eights}
 
@@ -62,10 +61,10 @@ module _ (e : ScoreExport) where
   exported : (x : Called) → score_called e ≡ x → Holds x p → Others x → ScoreExported e
   exported x q h o = record { places = rw q h; counts = rw q o.0; buffer = rw q o.1 }
 
-  pub not_called : Nothing ≡ parts_in e.raw → Holds none p → Others none → ScoreExported e
+  pub not_called : None ≡ parts_in e.raw → Holds none p → Others none → ScoreExported e
   not_called u = exported none (ap (λ (x : Parts). score_called_on x e) (sym u))
 
-  module _ (v : SeqVoice) (m : Adsr) (b : Answer) (is : Both v m ≡ parts_in e.raw) (call : SessionScored (session_in e.raw) (call_of e (seq_with v m e.raw) b)) where
+  module _ (v : SeqVoice) (m : Adsr) (b : Answer) (is : Some (v, m) ≡ parts_in e.raw) (call : SessionScored (session_in e.raw) (call_of e (seq_with v m e.raw) b)) where
     abbrev a : Session
     a = session_in e.raw
 

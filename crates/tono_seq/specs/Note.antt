@@ -1,12 +1,10 @@
 -- A note call from numbers and lists: the note call's own definition.
-use Rattle.std.specs.Prelude.{ℕ, ◌≡◌, List, length, Float}
+use Rattle.std.specs.Prelude.{ℕ, ◌≡◌, List, length, Float, None, Option, Some}
 use Rattle.dsl.specs.declared.knobs.SeqVoice.{SeqVoice}
 use Rattle.note_verdict.specs.NoteRefusals.{NoteHanded}
 use Rattle.note.specs.NoteCall.{note_result_of}
 use Rattle.raw_knobs.specs.Knobs.{voice_at}
 use Rattle.raw_call.specs.Called.{Called, none, made, state_after_call, Places, Holds}
-use Rattle.raw_knobs.specs.declared.VoiceAt.{VoiceAt}
-use Rattle.raw_knobs.specs.declared.VoiceAt.TheVariants.{Voice, Nothing}
 
 -- What was handed in, and what was lent and answered. `state` is the generator's.
 pub record NoteExport : Type 0 where
@@ -34,9 +32,9 @@ handed_with v e = record {
   string = length e.places.string₀;
 }
 
-abbrev pub note_called_with : VoiceAt → NoteExport → Called
-note_called_with (Voice v) e = made (note_result_of (handed_with v e) e.state₀)
-note_called_with Nothing e = none
+abbrev pub note_called_with : Option SeqVoice → NoteExport → Called
+note_called_with (Some v) e = made (note_result_of (handed_with v e) e.state₀)
+note_called_with None e = none
 
 abbrev pub note_called : NoteExport → Called
 note_called e = note_called_with (voice_at e.wave e.style e.knobs e.bars) e

@@ -1,13 +1,11 @@
 -- A score call from numbers and lists: the score call's own definition.
-use Rattle.std.specs.Prelude.{ℕ, ◌≡◌, List, length, drop, Float}
+use Rattle.std.specs.Prelude.{ℕ, ◌≡◌, List, length, drop, Float, Some, None}
 use Rattle.score.specs.Score.{Score, handed}
 use Rattle.score.specs.declared.seq.Seq.{Seq}
 use Rattle.score_contract.specs.SessionCall.{result_at, session_after}
 use Rattle.session.specs.declared.session.Session.{Session}
 use Rattle.raw_call.specs.Called.{Called, none, made, free_after_call, Places, Holds}
-use Rattle.raw_call.specs.Raw.{Raw, session_in, seq_with, parts_in}
-use Rattle.raw_call.specs.declared.raw.Parts.{Parts}
-use Rattle.raw_call.specs.declared.raw.Parts.TheVariants.{Both, Nothing}
+use Rattle.raw_call.specs.Raw.{Parts, Raw, session_in, seq_with, parts_in}
 
 -- What was handed in, and what was lent and answered; `counts` are the stations' draw counts after the call, and `buffer` is the note buffer.
 pub record ScoreExport : Type 0 where
@@ -25,8 +23,8 @@ abbrev pub score_with : Seq → ScoreExport → Score
 score_with q e = handed q e.notes e.lane e.places.out₀ e.buffer₀ e.places.string₀
 
 abbrev pub score_called_on : Parts → ScoreExport → Called
-score_called_on (Both v a) e = made (result_at (session_in e.raw) e.station (score_with (seq_with v a e.raw) e))
-score_called_on Nothing e = none
+score_called_on (Some (v, a)) e = made (result_at (session_in e.raw) e.station (score_with (seq_with v a e.raw) e))
+score_called_on None e = none
 
 abbrev pub score_called : ScoreExport → Called
 score_called e = score_called_on (parts_in e.raw) e

@@ -2,7 +2,7 @@
 ghost use Rattle.tono_seq.specs.Note.{NoteExported};
 
 use raw_call::{draws_of, number_of};
-use raw_knobs::{VoiceAt, voice_at};
+use raw_knobs::voice_at;
 use rng::Rng;
 
 // 0 where the call is accepted, else the refusal's number. `state` is the generator's, and changes
@@ -46,7 +46,7 @@ pub fn seq_note_signal(
       };
     }) }
 {
-    let VoiceAt::Voice(voice) = voice_at(wave, style, knobs, bars) else {
+    let Some(voice) = voice_at(wave, style, knobs, bars) else {
         return u32::MAX;
     };
     let rng = Rng::new(*state);

@@ -1,7 +1,7 @@
 // The score call from numbers and slices.
 ghost use Rattle.tono_seq.specs.Score.{ScoreExported};
 
-use raw_call::{Parts, draws_of, number_of, parts_at, put_count, seq_of, session_of};
+use raw_call::{draws_of, number_of, parts_at, put_count, seq_of, session_of};
 
 // 0 where the call is accepted, else the refusal's number. `seeds` and `counts` are the session's, eight of each; the
 // count of the station that is named changes with an accepted call, and nothing else of them.
@@ -68,7 +68,7 @@ pub fn render_seq(
       };
     }) }
 {
-    let Parts::Both(voice, env) = parts_at(
+    let Some((voice, env)) = parts_at(
         seeds.len(),
         counts.len(),
         points.len(),

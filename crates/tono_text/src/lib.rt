@@ -5,9 +5,6 @@
 ghost use Rattle.tono_text.specs.CueSheet.{SheetReturned};
 ghost use Rattle.tono_text.specs.Planned.{PlanReturned};
 
-use text_plan::TextPlan;
-use text_sheet::Sheet;
-
 // Puts the draws that the text score `score` would make into `draws`, and returns 0. A refused score returns minus the
 // refusal's number, and changes nothing. The draw at which each note begins is still reckoned in list order.
 pub fn plan(score: &[u8], draws: &mut u64) -> i64
@@ -15,11 +12,11 @@ pub fn plan(score: &[u8], draws: &mut u64) -> i64
 {
     let mut words = text_judge::words_buffer();
     match text_plan::plan_text(score, &mut words) {
-        TextPlan::Planned(_, total) => {
+        Ok((_, total)) => {
             *draws = total;
             0
         }
-        TextPlan::Refused(number) => returned::minus_number(number),
+        Err(number) => returned::minus_number(number),
     }
 }
 
@@ -29,7 +26,7 @@ pub fn cue_sheet(score: &[u8], page: &mut [u8]) -> i64
     ensures { SheetReturned score.now page.old result page.new }
 {
     match text_sheet::sheet_text(score, page) {
-        Sheet::Bytes(length) => returned::length_as_i64(length),
-        Sheet::Refused(number) => returned::minus_number(number),
+        Ok(length) => returned::length_as_i64(length),
+        Err(refusal) => returned::minus_number(refusal),
     }
 }

@@ -7,15 +7,11 @@ use lib.IntN.{ℤ, pos, neg_ℤ}
 use Rattle.wave_file.specs.Refusal.{FileResult, refused, accepted, part_of, number_of}
 use Rattle.wave_file.specs.declared.refusal.FileRefusal.{FileRefusal}
 use Rattle.wave_write.specs.Write.{write_result, written_in, Wrote}
-use Rattle.wave_write.specs.declared.write.Written.{Written}
-use Rattle.wave_write.specs.declared.write.Written.TheVariants.{Bytes}
-use Rattle.wave_write.specs.declared.write.Written.TheVariants as write_answers
+use Rattle.std.specs.Prelude.{Result, Ok, Err}
 use Rattle.wave_write.proofs.Writing.{wrote_passed}
 use Rattle.wave_read.specs.Reading.{Wave}
 use Rattle.wave_read.specs.Read.{read_result, Extent, extent_of, read_in, Reads}
-use Rattle.wave_read.specs.declared.read.WaveRead.{WaveRead}
-use Rattle.wave_read.specs.declared.read.WaveRead.TheVariants.{Samples}
-use Rattle.wave_read.specs.declared.read.WaveRead.TheVariants as read_answers
+use Rattle.wave_read.specs.declared.read.Samples.{Samples}
 use Rattle.tono_wave.specs.Wave.{file_return, rate_after, WriteReturned, ReadReturned}
 
 -- what an answer says of a part of the result, the number says of the result
@@ -29,17 +25,17 @@ module _ {A B : Type 0} (part : A → B) (size : B → ℕ) where
   refused_returned (accepted a) number e = cc
 
 -- ---- writing
-module _ {rate : ℕ} {samples file₀ file : List ℕ} {said : Written} (w : Wrote rate samples file₀ said file) where
+module _ {rate : ℕ} {samples file₀ file : List ℕ} {said : Result ℕ FileRefusal} (w : Wrote rate samples file₀ said file) where
   abbrev written : FileResult (List ℕ)
   written = write_result rate samples (length file₀)
 
-  pub bytes_fit : (n : ℕ) → said ≡ Bytes n → n ≤ length file₀
+  pub bytes_fit : (n : ℕ) → said ≡ Ok n → n ≤ length file₀
   bytes_fit n e = (wrote_passed rate samples (length file₀) n (ap written_in (sym e) ∙ w.answer)).fits
 
-  pub write_length : (n : ℕ) → said ≡ Bytes n → {z : ℤ} → z ≡ pos n → WriteReturned rate samples file₀ z file
+  pub write_length : (n : ℕ) → said ≡ Ok n → {z : ℤ} → z ≡ pos n → WriteReturned rate samples file₀ z file
   write_length n e i = record { answer = i ∙ accepted_returned length (λ n. n) written n (ap written_in (sym e) ∙ w.answer); bytes = w.bytes }
 
-  pub write_refused : (r : FileRefusal) → said ≡ write_answers.Refused r → {n : ℕ} → n ≡ number_of r → {z : ℤ} → z ≡ neg_ℤ (pos n) → WriteReturned rate samples file₀ z file
+  pub write_refused : (r : FileRefusal) → said ≡ Err r → {n : ℕ} → n ≡ number_of r → {z : ℤ} → z ≡ neg_ℤ (pos n) → WriteReturned rate samples file₀ z file
   write_refused r e is i = record { answer = (rw is at i) ∙ refused_returned length (λ n. n) written (number_of r) (ap written_in (sym e) ∙ w.answer); bytes = w.bytes }
 
 -- ---- reading
@@ -51,17 +47,17 @@ rate_kept : (rate₀ : ℕ) (r : FileResult Wave) (number : ℕ) → refused num
 rate_kept rate₀ (refused k) number q = refl
 rate_kept rate₀ (accepted w) number q = cc
 
-module _ {file samples₀ samples : List ℕ} {said : WaveRead} (h : Reads file samples₀ said samples) (rate₀ : ℕ) where
+module _ {file samples₀ samples : List ℕ} {said : Result Samples FileRefusal} (h : Reads file samples₀ said samples) (rate₀ : ℕ) where
   abbrev result : FileResult Wave
   result = read_result file (length samples₀)
 
-  pub read_count : (rate count : ℕ) → said ≡ Samples rate count → {z : ℤ} → z ≡ pos count → ReadReturned file rate₀ samples₀ z rate samples
-  read_count rate count e i =
-      let q : accepted (record { rate = rate; count = count }) ≡ part_of extent_of result = ap read_in (sym e) ∙ h.answer in
-      let x : Extent = record { rate = rate; count = count } in
+  pub read_count : (s : Samples) → said ≡ Ok s → {z : ℤ} → z ≡ pos s.count → ReadReturned file rate₀ samples₀ z s.rate samples
+  read_count s e i =
+      let x : Extent = record { rate = s.rate; count = s.count } in
+      let q : accepted x ≡ part_of extent_of result = ap read_in (sym e) ∙ h.answer in
       record { answer = i ∙ accepted_returned extent_of (λ x. x.count) result x q; place = rate_read rate₀ result x q; bits = h.bits }
 
-  pub read_refused : (r : FileRefusal) → said ≡ read_answers.Refused r → {n : ℕ} → n ≡ number_of r → {z : ℤ} → z ≡ neg_ℤ (pos n) → ReadReturned file rate₀ samples₀ z rate₀ samples
+  pub read_refused : (r : FileRefusal) → said ≡ Err r → {n : ℕ} → n ≡ number_of r → {z : ℤ} → z ≡ neg_ℤ (pos n) → ReadReturned file rate₀ samples₀ z rate₀ samples
   read_refused r e is i =
       let q : refused (number_of r) ≡ part_of extent_of result = ap read_in (sym e) ∙ h.answer in
       record { answer = (rw is at i) ∙ refused_returned extent_of (λ x. x.count) result (number_of r) q; place = rate_kept rate₀ result (number_of r) q; bits = h.bits }

@@ -4,17 +4,14 @@
 
 ghost use Rattle.tono_wave.specs.Wave.{WriteReturned, ReadReturned};
 
-use wave_read::WaveRead;
-use wave_write::Written;
-
 // Writes the WAVE file of `samples` at the start of `file`, and returns its length in bytes; the bytes
 // after it stay. A refused call returns minus the refusal's number, and changes nothing.
 pub fn write(rate: u32, samples: &[u32], file: &mut [u8]) -> i64
     ensures { WriteReturned rate samples.now file.old result file.new }
 {
     match wave_write::write_wave(rate, samples, file) {
-        Written::Bytes(length) => returned::length_as_i64(length),
-        Written::Refused(refusal) => returned::minus_number(refusal.number()),
+        Ok(length) => returned::length_as_i64(length),
+        Err(refusal) => returned::minus_number(refusal.number()),
     }
 }
 
@@ -25,10 +22,10 @@ pub fn read(file: &[u8], rate: &mut u32, samples: &mut [u32]) -> i64
     ensures { ReadReturned file.now rate.old samples.old result rate.new samples.new }
 {
     match wave_read::read_wave(file, samples) {
-        WaveRead::Samples { rate: found, count } => {
-            *rate = found;
-            returned::length_as_i64(count)
+        Ok(found) => {
+            *rate = found.rate;
+            returned::length_as_i64(found.count)
         }
-        WaveRead::Refused(refusal) => returned::minus_number(refusal.number()),
+        Err(refusal) => returned::minus_number(refusal.number()),
     }
 }

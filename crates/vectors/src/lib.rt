@@ -4,15 +4,17 @@
 // again with the answers appended.
 #![tactic(auto)]
 
-mod answers; // answers.rt: answers to a line of a name
-mod fields; // fields.rt: lines, fields and numbers of a text
+mod fields; // fields.rt: fields of a line, and numbers in them
 mod input; // input.rt: where a text is read to
-mod patterns; // patterns.rt: floats and signed numbers as bit patterns
+mod patterns; // patterns.rt: floats as bit patterns
 mod print; // print.rt: texts and numbers on what a program writes to
+mod replay; // replay.rt: from line to line of a text, and from case to case
+mod values; // values.rt: numbers of any type that a program writes
 
-pub use answers::{answer_f32, answer_f64};
-pub use fields::{is_named, length_field, line_end, u32_field, u64_field};
-pub use input::{input_buffer, short_buffer};
+pub use fields::{Number, is_named, length_field, numbers, u32_field, u64_field};
+pub use input::buffer;
 pub use patterns::{f32_field, f64_field};
 pub use print::{print_f32, print_f64, print_i64, print_text, print_u64};
 pub use programs::read_full;
+pub use replay::{replay_cases, replay_lines};
+pub use values::{Value, answer, print_values};

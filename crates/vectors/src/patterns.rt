@@ -1,4 +1,4 @@
-// Floats and signed numbers as bit patterns.
+// Floats as bit patterns.
 use crate::fields::{u32_field, u64_field};
 
 // The value of a pattern. Every NaN pattern gives the NaN of 0 / 0, where `f64::from_bits` is
@@ -23,14 +23,6 @@ pub(crate) fn f64_bits(x: f64) -> u64 {
         return 0x7ff8_0000_0000_0000;
     }
     f64::to_bits(x)
-}
-
-// The two's complement of n.
-pub(crate) fn i64_bits(n: i64) -> u64 {
-    if n < 0 {
-        return u64::MAX - ((-1 - n) as u64);
-    }
-    n as u64
 }
 
 // The f32 whose pattern is the low half of the number in field k.

@@ -4,7 +4,7 @@ ghost use Rattle.std.specs.Io.KnownBytes.{Appends};
 ghost use Rattle.programs.specs.Streams.{AppendsPart, Grows};
 ghost use Rattle.vectors.specs.Numbers.{spaced};
 
-use crate::patterns::{f32_bits, f64_bits, i64_bits};
+use crate::patterns::{f32_bits, f64_bits};
 use programs::print_all;
 use std::io;
 use std::io::Write;
@@ -18,6 +18,7 @@ pub fn print_text<W: Write>(writer: &mut W, text: &[u8]) -> io::Result<()>
     print_all(writer, text)
 }
 
+// Two functions, since `text_listing` has one for each width, and a buffer of `WIDTH + 1` bytes is no type.
 fn print_8<W: Write>(writer: &mut W, n: u64) -> io::Result<()>
     ensures all { OnOk result (Appends (W.contents writer.old) (W.contents writer.new) (spaced 8 n)) }
     ensures part { OnErr result (AppendsPart (W.contents writer.old) (W.contents writer.new) (spaced 8 n)) }
@@ -61,5 +62,5 @@ pub fn print_u64<W: Write>(writer: &mut W, n: u64) -> io::Result<()>
 pub fn print_i64<W: Write>(writer: &mut W, n: i64) -> io::Result<()>
     ensures { Grows (W.contents writer.old) (W.contents writer.new) }
 {
-    print_16(writer, i64_bits(n))
+    print_16(writer, n.cast_unsigned())
 }

@@ -6,66 +6,19 @@
 ghost use Rattle.std.specs.Prelude.{◌≤◌, ◌<◌};
 ghost use Rattle.programs.specs.Streams.{Grows};
 
-use raw_knobs::VoiceAt;
 use rng::Rng;
 use std::io;
 use std::io::{BufWriter, Write};
-
-const FRAMES: usize = 128;
-
-fn at_most(i: usize, last: usize) -> usize
-    ensures { result ≤ last }
-{
-    if i < last { i } else { last }
-}
 
 // `count` values from field `from` on, the last of them in the places after it.
 fn values(line: &[u8], from: usize, count: usize) -> [f32; 128]
     requires { (0 < count) × (count ≤ 128) × (from ≤ 1024) }
 {
     let mut out = [0.0f32; 128];
-    let mut i = 0;
-    while i < FRAMES {
-        out[i] = vectors::f32_field(line, from + at_most(i, count - 1));
-        i += 1;
+    for (i, x) in out.iter_mut().enumerate() {
+        *x = vectors::f32_field(line, from + i.min(count - 1));
     }
     out
-}
-
-fn knob_values(line: &[u8], from: usize) -> [f32; 22]
-    requires { from ≤ 1024 }
-{
-    let mut out = [0.0f32; 22];
-    let mut i = 0;
-    while i < 22 {
-        out[i] = vectors::f32_field(line, from + i);
-        i += 1;
-    }
-    out
-}
-
-fn bar_values(line: &[u8], from: usize) -> [f32; 10]
-    requires { from ≤ 1024 }
-{
-    let mut out = [0.0f32; 10];
-    let mut i = 0;
-    while i < 10 {
-        out[i] = vectors::f32_field(line, from + i);
-        i += 1;
-    }
-    out
-}
-
-fn print_samples<W: Write>(writer: &mut W, out: &[f32; 128], frames: usize) -> io::Result<()>
-    requires { frames ≤ 128 }
-    ensures { Grows (W.contents writer.old) (W.contents writer.new) }
-{
-    let mut i = 0;
-    while i < frames {
-        vectors::print_f32(writer, out[i])?;
-        i += 1;
-    }
-    Ok(())
 }
 
 // Fills `out` with the line's note; the generator after it. Where the wave or the style is none, nothing changes.
@@ -80,7 +33,7 @@ fn sound(
     let rng = Rng::new(vectors::u64_field(line, 5));
     let wave = vectors::u32_field(line, 1);
     let style = vectors::u32_field(line, 2);
-    let VoiceAt::Voice(voice) = raw_knobs::voice_at(wave, style, set, bars) else {
+    let Some(voice) = raw_knobs::voice_at(wave, style, set, bars) else {
         return rng;
     };
     let rate = vectors::u32_field(line, 3);
@@ -96,8 +49,8 @@ fn play<W: Write>(writer: &mut W, line: &[u8], frames: usize, count: usize) -> i
 {
     let pitch = values(line, 8, count);
     let duty = values(line, 8 + count, count);
-    let set = knob_values(line, 8 + 2 * count);
-    let bars = bar_values(line, 30 + 2 * count);
+    let set = vectors::numbers::<f32, 22>(line, 8 + 2 * count);
+    let bars = vectors::numbers::<f32, 10>(line, 30 + 2 * count);
     let mut out = [0.0f32; 128];
     let after = sound(
         line,
@@ -107,7 +60,7 @@ fn play<W: Write>(writer: &mut W, line: &[u8], frames: usize, count: usize) -> i
         &duty[..frames],
         &mut out[..frames],
     );
-    print_samples(writer, &out, frames)?;
+    vectors::print_values(writer, &out[..frames])?;
     vectors::print_u64(writer, after.state())
 }
 
@@ -118,35 +71,16 @@ fn replay_line<W: Write>(writer: &mut W, line: &[u8]) -> io::Result<()>
     vectors::print_text(writer, line)?;
     let frames = vectors::u64_field(line, 6);
     let count = vectors::u64_field(line, 7);
-    if frames <= 128 {
-        if 0 < count {
-            if count <= 128 {
-                play(writer, line, frames as usize, count as usize)?;
-            }
-        }
+    if frames <= 128 && 0 < count && count <= 128 {
+        play(writer, line, frames as usize, count as usize)?;
     }
     vectors::print_text(writer, b"\n")
 }
 
-fn replay<W: Write>(writer: &mut W, text: &[u8]) -> io::Result<()>
-    ensures { Grows (W.contents writer.old) (W.contents writer.new) }
-{
-    let mut at = 0;
-    while at < text.len() {
-        let end = vectors::line_end(text, at);
-        replay_line(writer, &text[at..end])?;
-        if end == text.len() {
-            return Ok(());
-        }
-        at = end + 1;
-    }
-    Ok(())
-}
-
 fn main(rt: HostRuntime) -> io::Result<()> {
-    let mut text = vectors::input_buffer();
+    let mut text = vectors::buffer::<524288>();
     let n = vectors::read_full(&mut rt.stdin(), &mut text)?;
     let mut writer = BufWriter::new(rt.alloc(), rt.stdout())?;
-    replay(&mut writer, &text[..n])?;
+    vectors::replay_lines(&mut writer, &text[..n], replay_line)?;
     writer.flush()
 }

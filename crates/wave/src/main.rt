@@ -11,7 +11,6 @@ ghost use Rattle.wave.specs.Input.{written, to_out, to_err, InputFiled, ReadFile
 use programs::{Input, input_buffer, print_all, print_refusal, read_input};
 use std::io;
 use std::io::{Read, Write};
-use text_wave::TextWave;
 
 // As long as the longest file: 58 bytes, and four for each of 2,048 frames.
 fn file_buffer() -> [u8; 8250]
@@ -21,7 +20,7 @@ fn file_buffer() -> [u8; 8250]
 }
 
 // Puts the file of what was read, the first bytes of `score`, at the start of `file`, which has room for any.
-fn file_read(score: &[u8], input: Input, file: &mut [u8]) -> TextWave
+fn file_read(score: &[u8], input: Input, file: &mut [u8]) -> Result<usize, u32>
     requires in_bounds { 65536 < length score.now }
     requires prefix_len { IsPrefixLen input.0 score.now }
     requires in_bounds_2 { 8250 ≤ length file.old }
@@ -34,7 +33,12 @@ fn file_read(score: &[u8], input: Input, file: &mut [u8]) -> TextWave
 
 // Reads the input into `score` and puts its file at the start of `file`, which has room for any. A read that
 // fails ends it with that read's error.
-fn file_input<R: Read>(input: &mut R, score: &mut [u8], file: &mut [u8]) -> io::Result<TextWave>
+// The programs share `read_input`; what is left here is one call, and a contract that speaks of this program alone.
+fn file_input<R: Read>(
+    input: &mut R,
+    score: &mut [u8],
+    file: &mut [u8],
+) -> io::Result<Result<usize, u32>>
     requires in_bounds { 65536 < length score.old }
     requires in_bounds_2 { 8250 ≤ length file.old }
     ensures input_filed { IfOk result (λ said. InputFiled score.new file.old said file.new) }
@@ -52,7 +56,7 @@ fn file_input<R: Read>(input: &mut R, score: &mut [u8], file: &mut [u8]) -> io::
 fn answer<O: Write, E: Write>(
     out: &mut O,
     err: &mut E,
-    said: TextWave,
+    said: Result<usize, u32>,
     file: &[u8],
 ) -> io::Result<()>
     requires { written said ≤ length file.now }
@@ -62,8 +66,8 @@ fn answer<O: Write, E: Write>(
     ensures line_part { OnErr result (AppendsPart (E.contents err.old) (E.contents err.new) (to_err said file.now)) }
 {
     match said {
-        TextWave::Bytes(length) => print_all(out, &file[..length]),
-        TextWave::Refused(number) => print_refusal(err, number),
+        Ok(length) => print_all(out, &file[..length]),
+        Err(number) => print_refusal(err, number),
     }
 }
 

@@ -15,8 +15,8 @@ use Rattle.wave_file.specs.Refusal.{FileResult, refused, accepted, part_of, numb
 use Rattle.wave_file.specs.declared.refusal.FileRefusal.{FileRefusal}
 use Rattle.wave_read.specs.Reading.{Wave}
 use Rattle.wave_read.specs.Read.{read_result, Extent, extent_of, read_in, samples_after, Reads}
-use Rattle.wave_read.specs.declared.read.WaveRead.{WaveRead}
-use Rattle.wave_read.specs.declared.read.WaveRead.TheVariants.{Samples, Refused}
+use Rattle.std.specs.Prelude.{Result, Ok, Err}
+use Rattle.wave_read.specs.declared.read.Samples.{Samples}
 use Rattle.wave_frames.specs.Input.{shown_read, file_lines, InputShown, ReadShown}
 
 pub shown_long : (file : List ℕ) → 65536 < length file → printed_r 23 ≡ file_lines file
@@ -40,17 +40,17 @@ refused_from : (r : FileResult Wave) (number : ℕ) → refused number ≡ part_
 refused_from (refused k) number q = let s : number ≡ k = cc in ap printed_r s
 refused_from (accepted w) number q = let z : ◌≡◌ {A = ℕ} 0 1 = cc in absurd (omega arith)
 
-module _ {file samples₀ samples : List ℕ} {said : WaveRead} (h : Reads file samples₀ said samples) (room : 2048 ≡ length samples₀) (few : length file ≤ 65536) where
+module _ {file samples₀ samples : List ℕ} {said : Result Samples FileRefusal} (h : Reads file samples₀ said samples) (room : 2048 ≡ length samples₀) (few : length file ≤ 65536) where
   answered : read_in said ≡ part_of extent_of (read_result file 2048)
   answered = h.answer ∙ ap (λ (n : ℕ). part_of extent_of (read_result file n)) (sym room)
 
-  pub shown_samples : (rate count : ℕ) → said ≡ Samples rate count → lines_of (take count samples) ≡ file_lines file
-  shown_samples rate count e =
-      taken_from (read_result file 2048) (record { rate = rate; count = count }) samples₀ samples (ap read_in (sym e) ∙ answered)
+  pub shown_samples : (s : Samples) → said ≡ Ok s → lines_of (take s.count samples) ≡ file_lines file
+  shown_samples s e =
+      taken_from (read_result file 2048) (record { rate = s.rate; count = s.count }) samples₀ samples (ap read_in (sym e) ∙ answered)
       (h.bits ∙ ap (λ (n : ℕ). samples_after samples₀ (read_result file n)) (sym room))
       ∙ shown_read_lem file few
 
-  pub shown_refusal : (r : FileRefusal) → said ≡ Refused r → {k : ℕ} → k ≡ number_of r → printed_r k ≡ file_lines file
+  pub shown_refusal : (r : FileRefusal) → said ≡ Err r → {k : ℕ} → k ≡ number_of r → printed_r k ≡ file_lines file
   shown_refusal r e i = ap printed_r i ∙ refused_from (read_result file 2048) (number_of r) (ap read_in (sym e) ∙ answered) ∙ shown_read_lem file few
 
 pub lines_room : {count n size : ℕ} → count ≤ 2048 → count ≡ n → 32768 ≤ size → FramesRoom n 0 size

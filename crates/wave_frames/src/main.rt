@@ -13,7 +13,6 @@ use programs::{Input, input_buffer, read_input};
 use std::io;
 use std::io::{Read, Write};
 use text_listing::{put_lines, put_refusal};
-use wave_read::WaveRead;
 
 fn samples_buffer() -> [u32; 2048]
     ensures { 2048 ≡ length result }
@@ -38,8 +37,8 @@ fn put_file_lines(file: &[u8], samples: &mut [u32], page: &mut [u8]) -> usize
         return put_refusal(page, 23);
     }
     match wave_read::read_wave(file, samples) {
-        WaveRead::Samples { rate: _, count } => put_lines(page, &samples[..count]),
-        WaveRead::Refused(refusal) => put_refusal(page, refusal.number()),
+        Ok(found) => put_lines(page, &samples[..found.count]),
+        Err(refusal) => put_refusal(page, refusal.number()),
     }
 }
 
@@ -59,6 +58,7 @@ fn show_read(file: &[u8], input: Input, samples: &mut [u32], page: &mut [u8]) ->
 
 // Reads the input into `file` and puts its lines at the start of `page`; the answer is how many bytes
 // of the page are to be written. A read that fails ends it with that read's error.
+// The programs share `read_input`; what is left here is one call, and a contract that speaks of this program alone.
 fn show_input<R: Read>(
     input: &mut R,
     file: &mut [u8],

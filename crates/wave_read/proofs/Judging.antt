@@ -3,6 +3,7 @@ use Prim.Native.Nat.{ℕ, ◌+◌, ◌-◌, ◌≤◌, ◌<◌}
 use mathlib.Core.Path.{◌≡◌, refl, sym, ap, ◌∙◌}
 use mathlib.Core.List.{List}
 use mathlib.Core.Bool.{true, false, not}
+use Rattle.std.specs.Prelude.{Option, Some, None, Result, Ok, Err}
 use native.Mathlib.Omega.{arith}
 use borrow.Author.Tests.{lt-ltb, le-ltb, eq-eqb, ne_eqb}
 use lib.ListN.{length, take, drop, length-drop}
@@ -12,14 +13,11 @@ use Rattle.laws.proofs.If.{if_true, if_false}
 use Rattle.wave_file.specs.Bytes.{number_in, field_at}
 use Rattle.wave_file.specs.Chunk.{FMT, FACT, DATA, ck_id, ck_size}
 use Rattle.wave_file.specs.Refusal.{FileResult, refused}
+use Rattle.wave_file.specs.declared.refusal.FileRefusal.{FileRefusal}
 use Rattle.wave_file.specs.declared.refusal.FileRefusal.TheVariants.{Structure}
 use Rattle.wave_read.specs.Reading.{Wave, fmt_chunk, fact_chunk, chunk_in}
-use Rattle.wave_read.specs.Walked.{Whole, step_in, step_reach, Stepped}
-use Rattle.wave_read.specs.declared.chunks.Given.{Given}
-use Rattle.wave_read.specs.declared.chunks.Given.TheVariants.{Missing, Is}
+use Rattle.wave_read.specs.Walked.{Whole, met_in, step_in, step_reach, Stepped}
 use Rattle.wave_read.specs.declared.chunks.Met.{Met}
-use Rattle.wave_read.specs.declared.chunks.Step.{Step}
-use Rattle.wave_read.specs.declared.chunks.Step.TheVariants.{Fault, Next, Data}
 
 pub other : (x y : ℕ) → (x ≡ y → ⊥) → not (eqb x y) ≡ true
 other x y h = ap not (ne_eqb x y h)
@@ -39,13 +37,13 @@ module _ (file : List ℕ) (at : ℕ) where
   by_place : (n k : ℕ) {v : ℕ} → v ≡ field_at n (at + k) file → field_at n k c ≡ v
   by_place n k e = sym (field_in n k at file) ∙ sym e
 
-  module _ {size : ℕ} (w : Whole file at size) (rate count : Given) (next : Met → FileResult Wave) where
+  module _ {size : ℕ} (w : Whole file at size) (rate count : Option ℕ) (next : Met → FileResult Wave) where
     -- ---- fmt
-    pub fmt_second : (r : ℕ) → rate ≡ Is r → refused 37 ≡ fmt_chunk rate count c next
+    pub fmt_second : (r : ℕ) → rate ≡ Some r → refused 37 ≡ fmt_chunk rate count c next
     unfolding fmt_chunk
     fmt_second r e = rw e
 
-    module _ (first : rate ≡ Missing) where
+    module _ (first : rate ≡ None) where
       pub fmt_size : (size ≡ 18 → ⊥) → refused 37 ≡ fmt_chunk rate count c next
       unfolding fmt_chunk
       fmt_size h = rw first (if_true _ (other _ _ (rw w.is at h)) refl)
@@ -74,35 +72,43 @@ module _ (file : List ℕ) (at : ℕ) where
             unfolding fmt_chunk
             fmt_width h = rw first (if_false _ sized (if_false _ tagged (if_false _ mono (if_true _ (other _ _ (λ g. h (sym (by_place 2 22 e₃) ∙ g))) refl))))
 
-            pub fmt_met : v₃ ≡ 32 → {v : ℕ} → v ≡ field_at 4 (at + 12) file → next (record { rate = Is v; count = count }) ≡ fmt_chunk rate count c next
+            pub fmt_met : v₃ ≡ 32 → {v : ℕ} → v ≡ field_at 4 (at + 12) file → next (record { rate = Some v; count = count }) ≡ fmt_chunk rate count c next
             unfolding fmt_chunk
             fmt_met h e =
                 rw first (if_false _ sized (if_false _ tagged (if_false _ mono (if_false _ (same _ _ (by_place 2 22 e₃ ∙ h))
-                (ap (λ (x : ℕ). next (record { rate = Is x; count = count })) (sym (by_place 4 12 e)))))))
+                (ap (λ (x : ℕ). next (record { rate = Some x; count = count })) (sym (by_place 4 12 e)))))))
 
     -- ---- fact
-    pub fact_second : (n : ℕ) → count ≡ Is n → refused 37 ≡ fact_chunk rate count c next
+    pub fact_second : (n : ℕ) → count ≡ Some n → refused 37 ≡ fact_chunk rate count c next
     unfolding fact_chunk
     fact_second n e = rw e
 
-    module _ (first : count ≡ Missing) where
+    module _ (first : count ≡ None) where
       pub fact_size : (size ≡ 4 → ⊥) → refused 37 ≡ fact_chunk rate count c next
       unfolding fact_chunk
       fact_size h = rw first (if_true _ (other _ _ (rw w.is at h)) refl)
 
-      pub fact_met : size ≡ 4 → {v : ℕ} → v ≡ field_at 4 (at + 8) file → next (record { rate = rate; count = Is v }) ≡ fact_chunk rate count c next
+      pub fact_met : size ≡ 4 → {v : ℕ} → v ≡ field_at 4 (at + 8) file → next (record { rate = rate; count = Some v }) ≡ fact_chunk rate count c next
       unfolding fact_chunk
       fact_met s e =
-          rw first (if_false _ (same _ _ (sym w.is ∙ s)) (ap (λ (x : ℕ). next (record { rate = rate; count = Is x })) (sym (by_place 4 8 e))))
+          rw first (if_false _ (same _ _ (sym w.is ∙ s)) (ap (λ (x : ℕ). next (record { rate = rate; count = Some x })) (sym (by_place 4 8 e))))
 
 -- ---- any chunk
-reach_most : (step : Step) (end : ℕ) → step_reach step end ≤ end
-reach_most (Fault r) end = omega arith
-reach_most (Next met) end = omega arith
-reach_most Data end = omega arith
+-- a chunk that comes before the samples, as a step
+abbrev pub lifted : Result Met FileRefusal → Result (Option Met) FileRefusal
+lifted (Err r) = Err r
+lifted (Ok met) = Ok (Some met)
+
+lifted_in : (said : Result Met FileRefusal) (next : Met → FileResult Wave) (here : FileResult Wave) → step_in (lifted said) next here ≡ met_in said next
+lifted_in (Err r) next here = refl
+lifted_in (Ok met) next here = refl
+
+reach_most : (step : Result (Option Met) FileRefusal) (end : ℕ) → step_reach step end ≤ end
+reach_most (Err r) end = omega arith
+reach_most (Ok step) end = omega arith
 
 module _ (file : List ℕ) (at : ℕ) (l : at ≤ length file) (met : Met) where
-  pub step_cut : length file - at < 8 → Stepped file at met (Fault Structure)
+  pub step_cut : length file - at < 8 → Stepped file at met (Err Structure)
   unfolding chunk_in
   step_cut h =
       let m : length (drop at file) < 8 = rw (length-drop at file) h in
@@ -112,7 +118,7 @@ module _ (file : List ℕ) (at : ℕ) (l : at ≤ length file) (met : Met) where
     long : 8 ≤ length (drop at file)
     long = rw (length-drop at file) h
 
-    pub step_past : {size : ℕ} → size ≡ field_at 4 (at + 4) file → length file - at - 8 < size → Stepped file at met (Fault Structure)
+    pub step_past : {size : ℕ} → size ≡ field_at 4 (at + 4) file → length file - at - 8 < size → Stepped file at met (Err Structure)
     unfolding chunk_in
     step_past e g =
         let m : length (drop at file) < 8 + ck_size (drop at file) = omega (arith, length-drop at file, field_in 4 4 at file) in
@@ -132,40 +138,40 @@ module _ (file : List ℕ) (at : ℕ) (l : at ≤ length file) (met : Met) where
         named : ck_id (drop at file) ≡ name
         named = sym i
 
-        pub step_fmt : name ≡ FMT → {step : Step}
-            → ((next : Met → FileResult Wave) (here : FileResult Wave) → step_in step next here ≡ fmt_chunk met.rate met.count (drop at file) next)
-            → Stepped file at met step
+        pub step_fmt : name ≡ FMT → (said : Result Met FileRefusal)
+            → ((next : Met → FileResult Wave) → met_in said next ≡ fmt_chunk met.rate met.count (drop at file) next)
+            → Stepped file at met (lifted said)
         unfolding chunk_in
-        step_fmt n {step} s = record {
-          is = λ next. if_false _ (le-ltb _ _ long) (if_false _ (le-ltb _ _ inside) (if_true _ (eq-eqb _ _ (named ∙ n)) (s next _)));
-          reach = omega (arith, reach_most step (at + (8 + ck_size (drop at file))), fits);
+        step_fmt n said s = record {
+          is = λ next. if_false _ (le-ltb _ _ long) (if_false _ (le-ltb _ _ inside) (if_true _ (eq-eqb _ _ (named ∙ n)) (lifted_in said next _ ∙ s next)));
+          reach = omega (arith, reach_most (lifted said) (at + (8 + ck_size (drop at file))), fits);
         }
 
         module _ (m : name ≡ FMT → ⊥) where
           unlike_fmt : eqb (ck_id (drop at file)) FMT ≡ false
           unlike_fmt = ne_eqb _ _ (λ x. m (i ∙ x))
 
-          pub step_fact : name ≡ FACT → {step : Step}
-              → ((next : Met → FileResult Wave) (here : FileResult Wave) → step_in step next here ≡ fact_chunk met.rate met.count (drop at file) next)
-              → Stepped file at met step
+          pub step_fact : name ≡ FACT → (said : Result Met FileRefusal)
+              → ((next : Met → FileResult Wave) → met_in said next ≡ fact_chunk met.rate met.count (drop at file) next)
+              → Stepped file at met (lifted said)
           unfolding chunk_in
-          step_fact n {step} s = record {
-            is = λ next. if_false _ (le-ltb _ _ long) (if_false _ (le-ltb _ _ inside) (if_false _ unlike_fmt (if_true _ (eq-eqb _ _ (named ∙ n)) (s next _))));
-            reach = omega (arith, reach_most step (at + (8 + ck_size (drop at file))), fits);
+          step_fact n said s = record {
+            is = λ next. if_false _ (le-ltb _ _ long) (if_false _ (le-ltb _ _ inside) (if_false _ unlike_fmt (if_true _ (eq-eqb _ _ (named ∙ n)) (lifted_in said next _ ∙ s next))));
+            reach = omega (arith, reach_most (lifted said) (at + (8 + ck_size (drop at file))), fits);
           }
 
           module _ (o : name ≡ FACT → ⊥) where
             unlike_fact : eqb (ck_id (drop at file)) FACT ≡ false
             unlike_fact = ne_eqb _ _ (λ x. o (i ∙ x))
 
-            pub step_data : name ≡ DATA → Stepped file at met Data
+            pub step_data : name ≡ DATA → Stepped file at met (Ok None)
             unfolding chunk_in
             step_data n = record {
               is = λ next. if_false _ (le-ltb _ _ long) (if_false _ (le-ltb _ _ inside) (if_false _ unlike_fmt (if_false _ unlike_fact (if_true _ (eq-eqb _ _ (named ∙ n)) refl))));
               reach = fits;
             }
 
-            pub step_other : (name ≡ DATA → ⊥) → Stepped file at met (Next met)
+            pub step_other : (name ≡ DATA → ⊥) → Stepped file at met (Ok (Some met))
             unfolding chunk_in
             step_other p = record {
               is = λ next.

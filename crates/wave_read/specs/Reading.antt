@@ -1,10 +1,8 @@
 -- What a file's bytes say, or the number of its first fault in file order. In quotation marks: 02.
-use Rattle.std.specs.Prelude.{ℕ, zero, suc, ◌+◌, ◌*◌, ◌-◌, ◌%◌, List, [], ◌∷◌, cond, not, length, drop, ltb, eqb}
+use Rattle.std.specs.Prelude.{ℕ, Option, Some, None, zero, suc, ◌+◌, ◌*◌, ◌-◌, ◌%◌, List, [], ◌∷◌, cond, not, length, drop, ltb, eqb}
 use Rattle.wave_file.specs.Bytes.{field_at}
 use Rattle.wave_file.specs.Chunk.{RIFF, WAVE, FMT, FACT, DATA, ck_id, ck_size, ck_data}
 use Rattle.wave_file.specs.Refusal.{FileResult, refused, accepted}
-use Rattle.wave_read.specs.declared.chunks.Given.{Given}
-use Rattle.wave_read.specs.declared.chunks.Given.TheVariants.{Missing, Is}
 use Rattle.wave_read.specs.declared.chunks.Met.{Met}
 
 -- "the rate and each sample's bits"
@@ -21,27 +19,27 @@ samples_in (suc n) bs = field_at 4 0 bs ∷ samples_in n (drop 4 bs)
 
 -- "a second fmt", "fmt not 18" and then "a tag, channel count or sample width other than 3, 1 and 32 with 36"; "Other fmt fields .. are ignored". Of WAVEFORMATEX in the chunk's
 -- body: wFormatTag at 0, nChannels at 2, nSamplesPerSec at 4, wBitsPerSample at 14.
-unfoldable pub fmt_chunk : Given → Given → List ℕ → (Met → FileResult Wave) → FileResult Wave
-fmt_chunk (Is rate) count c next = refused 37
-fmt_chunk Missing count c next =
+unfoldable pub fmt_chunk : Option ℕ → Option ℕ → List ℕ → (Met → FileResult Wave) → FileResult Wave
+fmt_chunk (Some rate) count c next = refused 37
+fmt_chunk None count c next =
     cond (not (eqb (ck_size c) 18)) (refused 37)
     (cond (not (eqb (field_at 2 8 c) 3)) (refused 36)
     (cond (not (eqb (field_at 2 10 c) 1)) (refused 36)
     (cond (not (eqb (field_at 2 22 c) 32)) (refused 36)
-    (next (record { rate = Is (field_at 4 12 c); count = count })))))
+    (next (record { rate = Some (field_at 4 12 c); count = count })))))
 
 -- "a second .. fact", "fact not 4"
-unfoldable pub fact_chunk : Given → Given → List ℕ → (Met → FileResult Wave) → FileResult Wave
-fact_chunk rate (Is count) c next = refused 37
-fact_chunk rate Missing c next =
+unfoldable pub fact_chunk : Option ℕ → Option ℕ → List ℕ → (Met → FileResult Wave) → FileResult Wave
+fact_chunk rate (Some count) c next = refused 37
+fact_chunk rate None c next =
     cond (not (eqb (ck_size c) 4)) (refused 37)
-    (next (record { rate = rate; count = Is (field_at 4 8 c) }))
+    (next (record { rate = rate; count = Some (field_at 4 8 c) }))
 
 -- "data against fact and missing chunks come last": "data not 4 times fact's count"
-unfoldable pub data_chunk : Given → Given → List ℕ → FileResult Wave
-data_chunk Missing count c = refused 37
-data_chunk (Is rate) Missing c = refused 37
-data_chunk (Is rate) (Is count) c =
+unfoldable pub data_chunk : Option ℕ → Option ℕ → List ℕ → FileResult Wave
+data_chunk None count c = refused 37
+data_chunk (Some rate) None c = refused 37
+data_chunk (Some rate) (Some count) c =
     cond (not (eqb (ck_size c) (4 * count))) (refused 37)
     (accepted (record { rate = rate; samples = samples_in count (ck_data c) }))
 
@@ -70,4 +68,4 @@ reading file =
     (cond (not (eqb (ck_id file) RIFF)) (refused 37)
     (cond (not (eqb (ck_size file) (length file - 8))) (refused 37)
     (cond (not (eqb (field_at 4 8 file) WAVE)) (refused 37)
-    (walk 0 (record { rate = Missing; count = Missing }) (drop 12 file)))))
+    (walk 0 (record { rate = None; count = None }) (drop 12 file)))))

@@ -6,4 +6,4 @@ mod read; // read.rt: the call
 mod samples; // samples.rt: the samples
 mod walk; // walk.rt: from chunk to chunk up to the samples
 
-pub use read::{WaveRead, read_wave};
+pub use read::{Samples, read_wave};

@@ -10,11 +10,7 @@ pub(crate) fn copy_samples(file: &[u8], start: usize, count: usize, samples: &mu
     requires count_in_bounds_2 { count ≤ length samples.old }
     ensures { samples.new ≡ samples_in count (drop start file.now) ++ drop count samples.old }
 {
-    let mut at = start;
-    let mut i = 0;
-    while i < count {
-        samples[i] = u32_at(file, at);
-        at += 4;
-        i += 1;
+    for i in 0..count {
+        samples[i] = u32_at(file, start + 4 * i);
     }
 }

@@ -4,43 +4,40 @@ ghost use Rattle.wave_file.specs.Chunk.{ck_size, chunk_length};
 ghost use Rattle.wave_read.specs.Reading.{data_chunk, walk, reading};
 ghost use Rattle.wave_read.specs.Walked.{Finds};
 
-use crate::chunks::{Given, Met, Step, chunk_at};
+use crate::chunks::{Met, chunk_at};
 use wave_file::{FileRefusal, RIFF, WAVE, u32_at};
 
-// Where a file's samples start, and what was met before them; or its first fault.
+// Where a file's samples start, and what was met before them.
 #[derive(Clone, Copy)]
-pub enum Found {
-    Broken(FileRefusal),
-    At {
-        rate: u32,
-        count: usize,
-        start: usize,
-    },
+pub struct Place {
+    pub rate: u32,
+    pub count: usize,
+    pub start: usize,
 }
 
 // The data chunk at `at`, which is within the file.
-fn data_chunk(file: &[u8], at: usize, met: Met) -> Found
+fn data_chunk(file: &[u8], at: usize, met: Met) -> Result<Place, FileRefusal>
     requires { at + (8 + ck_size (drop at file.now)) ≤ length file.now }
     ensures { Finds file.now result (data_chunk met.rate met.count (drop at file.now)) }
 {
     let rate = met.rate;
-    let Given::Is(rate) = rate else {
-        return Found::Broken(FileRefusal::Structure);
+    let Some(rate) = rate else {
+        return Err(FileRefusal::Structure);
     };
     let count = met.count;
-    let Given::Is(count) = count else {
-        return Found::Broken(FileRefusal::Structure);
+    let Some(count) = count else {
+        return Err(FileRefusal::Structure);
     };
     let size = u32_at(file, at + 4) as usize;
     let count = count as usize;
     if size != 4 * count {
-        return Found::Broken(FileRefusal::Structure);
+        return Err(FileRefusal::Structure);
     }
-    Found::At {
+    Ok(Place {
         rate,
         count,
         start: at + 8,
-    }
+    })
 }
 
 // The place behind the chunk at `at`, which is within the file, and behind its padding byte.
@@ -53,43 +50,40 @@ fn chunk_end(file: &[u8], at: usize) -> usize
     at + (8 + size + padding)
 }
 
-fn find_data(file: &[u8]) -> Found
+fn find_data(file: &[u8]) -> Result<Place, FileRefusal>
     requires { 12 ≤ length file.now }
-    ensures { Finds file.now result (walk 0 (record { rate = Given.Missing; count = Given.Missing }) (drop 12 file.now)) }
+    ensures { Finds file.now result (walk 0 (record { rate = None; count = None }) (drop 12 file.now)) }
 {
     let mut at = 12;
     let mut met = Met {
-        rate: Given::Missing,
-        count: Given::Missing,
+        rate: None,
+        count: None,
     };
     while at < file.len() {
-        match chunk_at(file, at, met) {
-            Step::Fault(fault) => return Found::Broken(fault),
-            Step::Data => return data_chunk(file, at, met),
-            Step::Next(after) => {
-                met = after;
-                at = chunk_end(file, at);
-            }
-        }
+        let Some(after) = chunk_at(file, at, met)? else {
+            return data_chunk(file, at, met);
+        };
+        met = after;
+        at = chunk_end(file, at);
     }
-    Found::Broken(FileRefusal::Structure)
+    Err(FileRefusal::Structure)
 }
 
-// The samples of a file.
-pub(crate) fn find_samples(file: &[u8]) -> Found
+// The samples of a file; or its first fault.
+pub(crate) fn find_samples(file: &[u8]) -> Result<Place, FileRefusal>
     ensures { Finds file.now result (reading file.now) }
 {
     if file.len() < 12 {
-        return Found::Broken(FileRefusal::Structure);
+        return Err(FileRefusal::Structure);
     }
     if u32_at(file, 0) != RIFF {
-        return Found::Broken(FileRefusal::Structure);
+        return Err(FileRefusal::Structure);
     }
     if u32_at(file, 4) as usize != file.len() - 8 {
-        return Found::Broken(FileRefusal::Structure);
+        return Err(FileRefusal::Structure);
     }
     if u32_at(file, 8) != WAVE {
-        return Found::Broken(FileRefusal::Structure);
+        return Err(FileRefusal::Structure);
     }
     find_data(file)
 }

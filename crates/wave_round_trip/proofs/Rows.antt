@@ -1,4 +1,5 @@
 -- A whole chunk at the start of some bytes, and what the walk makes of it. Assumes nothing.
+use Rattle.std.specs.Prelude.{Option, Some, None}
 use Prim.Native.Nat.{ℕ, ◌+◌, ◌*◌, ◌-◌, ◌%◌, ◌^◌, ◌≤◌, ◌<◌}
 use mathlib.Core.Path.{◌≡◌, refl, sym, ap, ◌∙◌}
 use mathlib.Core.List.{List, [], ◌++◌, append_assoc, append-nil}
@@ -14,8 +15,6 @@ use Rattle.wave_file.specs.Chunk.{RIFF, WAVE, FMT, FACT, DATA, ck_id, ck_size, c
 use Rattle.wave_file.specs.Refusal.{FileResult, accepted}
 use Rattle.wave_file.proofs.Fields.{length_little, number_little}
 use Rattle.wave_read.specs.Reading.{Wave, samples_in, fmt_chunk, fact_chunk, data_chunk, chunk_in, walk, reading}
-use Rattle.wave_read.specs.declared.chunks.Given.{Given}
-use Rattle.wave_read.specs.declared.chunks.Given.TheVariants.{Missing, Is}
 use Rattle.wave_read.specs.declared.chunks.Met.{Met}
 use Rattle.wave_read.proofs.Walking.{walk_next}
 use Rattle.wave_round_trip.specs.Row.{Other, Row, none, other, fmt, fact}
@@ -102,40 +101,40 @@ same x y h = ap not (eq-eqb x y h)
 module _ (rest : List ℕ) where
   -- fmt with the fields that are judged: the tag, the channels and the width are at 0, 2 and 14 of its body
   pub walk_fmt : (body : List ℕ) → length body ≡ 18 → field_at 2 0 (body ++ rest) ≡ 3 → field_at 2 2 (body ++ rest) ≡ 1 → field_at 2 14 (body ++ rest) ≡ 32 → {rate : ℕ}
-      → field_at 4 4 (body ++ rest) ≡ rate → (count : Given)
-      → walk 0 (record { rate = Is rate; count = count }) rest ≡ walk 0 (record { rate = Missing; count = count }) (chunk FMT body ++ rest)
+      → field_at 4 4 (body ++ rest) ≡ rate → (count : Option ℕ)
+      → walk 0 (record { rate = Some rate; count = count }) rest ≡ walk 0 (record { rate = None; count = count }) (chunk FMT body ++ rest)
   unfolding fmt_chunk
   walk_fmt body n a b c {rate} e count =
-      let met : Met = record { rate = Missing; count = count } in
+      let met : Met = record { rate = None; count = count } in
       let l : length body < 256 ^ 4 = omega arith in
       let next : Met → FileResult Wave = λ after. walk 0 after rest in
-      let fields : walk 0 (record { rate = Is rate; count = count }) rest ≡ fmt_chunk Missing count (chunk FMT body ++ rest) next =
+      let fields : walk 0 (record { rate = Some rate; count = count }) rest ≡ fmt_chunk None count (chunk FMT body ++ rest) next =
       if_false _ (same _ _ (row_size FMT body rest l ∙ n))
       (if_false _ (same _ _ (row_field FMT body rest 2 0 ∙ a))
       (if_false _ (same _ _ (row_field FMT body rest 2 2 ∙ b))
       (if_false _ (same _ _ (row_field FMT body rest 2 14 ∙ c))
-      (ap (λ (r : ℕ). walk 0 (record { rate = Is r; count = count }) rest) (sym (row_field FMT body rest 4 4 ∙ e)))))) in
+      (ap (λ (r : ℕ). walk 0 (record { rate = Some r; count = count }) rest) (sym (row_field FMT body rest 4 4 ∙ e)))))) in
       fields ∙ row_fmt FMT body rest l (omega arith) met next refl ∙ row_walk FMT body rest l [] rest refl (omega arith) met
 
-  pub walk_fact : (body : List ℕ) → length body ≡ 4 → {n : ℕ} → field_at 4 0 (body ++ rest) ≡ n → (rate : Given)
-      → walk 0 (record { rate = rate; count = Is n }) rest ≡ walk 0 (record { rate = rate; count = Missing }) (chunk FACT body ++ rest)
+  pub walk_fact : (body : List ℕ) → length body ≡ 4 → {n : ℕ} → field_at 4 0 (body ++ rest) ≡ n → (rate : Option ℕ)
+      → walk 0 (record { rate = rate; count = Some n }) rest ≡ walk 0 (record { rate = rate; count = None }) (chunk FACT body ++ rest)
   unfolding fact_chunk
   walk_fact body s {n} e rate =
-      let met : Met = record { rate = rate; count = Missing } in
+      let met : Met = record { rate = rate; count = None } in
       let l : length body < 256 ^ 4 = omega arith in
       let next : Met → FileResult Wave = λ after. walk 0 after rest in
-      let fields : walk 0 (record { rate = rate; count = Is n }) rest ≡ fact_chunk rate Missing (chunk FACT body ++ rest) next =
+      let fields : walk 0 (record { rate = rate; count = Some n }) rest ≡ fact_chunk rate None (chunk FACT body ++ rest) next =
       if_false _ (same _ _ (row_size FACT body rest l ∙ s))
-      (ap (λ (k : ℕ). walk 0 (record { rate = rate; count = Is k }) rest) (sym (row_field FACT body rest 4 0 ∙ e))) in
+      (ap (λ (k : ℕ). walk 0 (record { rate = rate; count = Some k }) rest) (sym (row_field FACT body rest 4 0 ∙ e))) in
       fields ∙ row_fact FACT body rest l (omega arith) met next refl refl ∙ row_walk FACT body rest l [] rest refl (omega arith) met
 
   pub walk_data : (body : List ℕ) (rate n : ℕ) → length body ≡ 4 * n → length body < 256 ^ 4
-      → accepted (record { rate = rate; samples = samples_in n body }) ≡ walk 0 (record { rate = Is rate; count = Is n }) (chunk DATA body ++ rest)
+      → accepted (record { rate = rate; samples = samples_in n body }) ≡ walk 0 (record { rate = Some rate; count = Some n }) (chunk DATA body ++ rest)
   unfolding data_chunk
   walk_data body rate n s l =
-      let met : Met = record { rate = Is rate; count = Is n } in
+      let met : Met = record { rate = Some rate; count = Some n } in
       let next : Met → FileResult Wave = λ after. walk 0 after rest in
-      let bits : accepted (record { rate = rate; samples = samples_in n body }) ≡ data_chunk (Is rate) (Is n) (chunk DATA body ++ rest) =
+      let bits : accepted (record { rate = rate; samples = samples_in n body }) ≡ data_chunk (Some rate) (Some n) (chunk DATA body ++ rest) =
       if_false _ (same _ _ (row_size DATA body rest l ∙ s))
       (ap (λ (k : List ℕ). accepted (record { rate = rate; samples = samples_in n k })) (sym (row_data DATA body rest l))) in
       bits ∙ row_samples DATA body rest l (omega arith) met next refl refl refl ∙ row_walk DATA body rest l [] rest refl (omega arith) met
@@ -162,15 +161,15 @@ walk_row rest (fmt {count = count} {bs = bs} {body = body} f r) =
     let w : (n k : ℕ) → k + n ≤ length body → field_at n k (body ++ (bs ++ rest)) ≡ field_at n k body = λ n k. field_within n k body (bs ++ rest) in
     walk_row rest r
     ∙ walk_fmt (bs ++ rest) body f.size (w 2 0 (omega arith) ∙ f.tag) (w 2 2 (omega arith) ∙ f.channels) (w 2 14 (omega arith) ∙ f.width) (w 4 4 (omega arith) ∙ f.rated) count
-    ∙ ap (walk 0 (record { rate = Missing; count = count })) (sym (append_assoc (chunk FMT body) bs rest))
+    ∙ ap (walk 0 (record { rate = None; count = count })) (sym (append_assoc (chunk FMT body) bs rest))
 walk_row rest (fact {rate = rate} {bs = bs} {body = body} f r) =
     walk_row rest r
     ∙ walk_fact (bs ++ rest) body f.size (field_within 4 0 body (bs ++ rest) (omega arith) ∙ f.counted) rate
-    ∙ ap (walk 0 (record { rate = rate; count = Missing })) (sym (append_assoc (chunk FACT body) bs rest))
+    ∙ ap (walk 0 (record { rate = rate; count = None })) (sym (append_assoc (chunk FACT body) bs rest))
 
 -- ---- RIFF's own chunk
 pub form_read : (chunks : List ℕ) → length (little_endian 4 WAVE ++ chunks) < 256 ^ 4
-    → walk 0 (record { rate = Missing; count = Missing }) chunks ≡ reading (chunk RIFF (little_endian 4 WAVE ++ chunks))
+    → walk 0 (record { rate = None; count = None }) chunks ≡ reading (chunk RIFF (little_endian 4 WAVE ++ chunks))
 unfolding reading
 form_read chunks l =
     let body = little_endian 4 WAVE ++ chunks in
@@ -187,10 +186,10 @@ form_read chunks l =
     let past : drop 8 file ≡ body = rw (whole, inner) at (row_body RIFF body []) in
     let on : drop 12 file ≡ chunks = sym (drop-drop 4 8 file) ∙ ap (drop 4) past ∙ drop_at (little_endian 4 WAVE) chunks 4 (length_little 4 WAVE) in
     if_false _ (le-ltb _ _ twelve)
-    (if_false _ (same _ _ id) (if_false _ (same _ _ size) (if_false _ (same _ _ form) (ap (walk 0 (record { rate = Missing; count = Missing })) (sym on)))))
+    (if_false _ (same _ _ id) (if_false _ (same _ _ size) (if_false _ (same _ _ form) (ap (walk 0 (record { rate = None; count = None })) (sym on)))))
 
 -- A file of such a row, with data of four bytes for each sample of fact's count and anything behind it, is read.
-pub row_read : {rate n : ℕ} {bs : List ℕ} (body after : List ℕ) → Row (record { rate = Missing; count = Missing }) bs (record { rate = Is rate; count = Is n })
+pub row_read : {rate n : ℕ} {bs : List ℕ} (body after : List ℕ) → Row (record { rate = None; count = None }) bs (record { rate = Some rate; count = Some n })
     → length body ≡ 4 * n → length (little_endian 4 WAVE ++ (bs ++ (chunk DATA body ++ after))) < 256 ^ 4
     → accepted (record { rate = rate; samples = samples_in n body }) ≡ reading (chunk RIFF (little_endian 4 WAVE ++ (bs ++ (chunk DATA body ++ after))))
 row_read {rate} {n} {bs} body after r s l =

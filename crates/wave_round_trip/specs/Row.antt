@@ -1,9 +1,7 @@
 -- The chunks that may stand before data in a file that is read: fmt and fact once each, in either order, and any of other names.
-use Rattle.std.specs.Prelude.{ℕ, ◌%◌, ◌^◌, ◌<◌, ◌≡◌, List, [], ◌++◌, false, length, eqb}
+use Rattle.std.specs.Prelude.{Option, Some, None, ℕ, ◌%◌, ◌^◌, ◌<◌, ◌≡◌, List, [], ◌++◌, false, length, eqb}
 use Rattle.wave_file.specs.Bytes.{field_at}
 use Rattle.wave_file.specs.Chunk.{FMT, FACT, DATA, chunk}
-use Rattle.wave_read.specs.declared.chunks.Given.{Given}
-use Rattle.wave_read.specs.declared.chunks.Given.TheVariants.{Missing, Is}
 use Rattle.wave_read.specs.declared.chunks.Met.{Met}
 
 -- "a tag, channel count or sample width" of "3, 1 and 32", and a size of 18; nothing of the other fields
@@ -31,7 +29,7 @@ pub record Other (name : ℕ) (body pad : List ℕ) : Type 0 where
 pub data Row : Met → List ℕ → Met → Type 0 where
   none : {m : Met} → Row m [] m
   other : {m m' : Met} {bs : List ℕ} {name : ℕ} {body pad : List ℕ} → Other name body pad → Row m bs m' → Row m (chunk name body ++ (pad ++ bs)) m'
-  fmt : {count : Given} {m' : Met} {bs : List ℕ} {rate : ℕ} {body : List ℕ} → Fmt rate body
-      → Row (record { rate = Is rate; count = count }) bs m' → Row (record { rate = Missing; count = count }) (chunk FMT body ++ bs) m'
-  fact : {rate : Given} {m' : Met} {bs : List ℕ} {count : ℕ} {body : List ℕ} → Fact count body
-      → Row (record { rate = rate; count = Is count }) bs m' → Row (record { rate = rate; count = Missing }) (chunk FACT body ++ bs) m'
+  fmt : {count : Option ℕ} {m' : Met} {bs : List ℕ} {rate : ℕ} {body : List ℕ} → Fmt rate body
+      → Row (record { rate = Some rate; count = count }) bs m' → Row (record { rate = None; count = count }) (chunk FMT body ++ bs) m'
+  fact : {rate : Option ℕ} {m' : Met} {bs : List ℕ} {count : ℕ} {body : List ℕ} → Fact count body
+      → Row (record { rate = rate; count = Some count }) bs m' → Row (record { rate = rate; count = None }) (chunk FACT body ++ bs) m'

@@ -6,7 +6,7 @@
 // then, of a read, the rate and the samples lent, and of a write the bytes lent.
 #![tactic(auto)]
 
-ghost use Rattle.std.specs.Prelude.{◌≤◌, ◌<◌, length, IfOk};
+ghost use Rattle.std.specs.Prelude.{◌≤◌, ◌<◌, length};
 ghost use Rattle.programs.specs.Streams.{Grows};
 
 use std::io;
@@ -20,12 +20,6 @@ const MOST_BYTES: usize = 256;
 
 // What lent places hold before a call.
 const POINTS: u32 = 0x2e2e_2e2e;
-
-fn print_sample<W: Write>(writer: &mut W, x: u32) -> io::Result<()>
-    ensures { Grows (W.contents writer.old) (W.contents writer.new) }
-{
-    vectors::print_u64(writer, x as u64)
-}
 
 // The byte of a hexadecimal digit.
 fn hex_digit(v: u8) -> u8
@@ -43,10 +37,8 @@ fn print_byte<W: Write>(writer: &mut W, b: u8) -> io::Result<()>
 fn print_samples<W: Write>(writer: &mut W, samples: &[u32]) -> io::Result<()>
     ensures { Grows (W.contents writer.old) (W.contents writer.new) }
 {
-    let mut i = 0;
-    while i < samples.len() {
-        print_sample(writer, samples[i])?;
-        i += 1;
+    for sample in samples {
+        vectors::print_u64(writer, u64::from(*sample))?;
     }
     Ok(())
 }
@@ -54,10 +46,8 @@ fn print_samples<W: Write>(writer: &mut W, samples: &[u32]) -> io::Result<()>
 fn print_bytes<W: Write>(writer: &mut W, bytes: &[u8]) -> io::Result<()>
     ensures { Grows (W.contents writer.old) (W.contents writer.new) }
 {
-    let mut i = 0;
-    while i < bytes.len() {
-        print_byte(writer, bytes[i])?;
-        i += 1;
+    for byte in bytes {
+        print_byte(writer, *byte)?;
     }
     Ok(())
 }
@@ -99,15 +89,11 @@ fn write_call<W: Write>(
 fn samples_in(bytes: &[u8], samples: &mut [u32]) -> usize
     ensures { result ≤ length samples.old }
 {
-    let mut i = 0;
-    while i < samples.len() {
-        if bytes.len() / 4 <= i {
-            return i;
-        }
+    let count = samples.len().min(bytes.len() / 4);
+    for i in 0..count {
         samples[i] = u32_at(bytes, 4 * i);
-        i += 1;
     }
-    i
+    count
 }
 
 fn read_case<W: Write>(writer: &mut W, line: &[u8], file: &[u8]) -> io::Result<()>
@@ -138,45 +124,16 @@ fn replay_case<W: Write>(writer: &mut W, line: &[u8], bytes: &[u8]) -> io::Resul
     ensures { Grows (W.contents writer.old) (W.contents writer.new) }
 {
     if vectors::is_named(line, b"read") {
-        read_case(writer, line, bytes)?;
+        read_case(writer, line, bytes)
     } else {
-        write_bytes(writer, line, bytes)?;
+        write_bytes(writer, line, bytes)
     }
-    Ok(())
-}
-
-// The place after the case at `at`: its line, and its bytes, or as many as are left.
-fn replay_from<W: Write>(writer: &mut W, input: &[u8], at: usize) -> io::Result<usize>
-    requires { at < length input.now }
-    ensures next { IfOk result (λ next. (at < next) × (next ≤ length input.now)) }
-    ensures grows { Grows (W.contents writer.old) (W.contents writer.new) }
-{
-    let end = vectors::line_end(input, at);
-    if end == input.len() {
-        return Ok(end);
-    }
-    let start = end + 1;
-    let line = &input[at..end];
-    let length = vectors::length_field(line, 1, input.len() - start);
-    let stop = start + length;
-    replay_case(writer, line, &input[start..stop])?;
-    Ok(stop)
-}
-
-fn replay<W: Write>(writer: &mut W, input: &[u8]) -> io::Result<()>
-    ensures { Grows (W.contents writer.old) (W.contents writer.new) }
-{
-    let mut at = 0;
-    while at < input.len() {
-        at = replay_from(writer, input, at)?;
-    }
-    Ok(())
 }
 
 fn main(rt: HostRuntime) -> io::Result<()> {
-    let mut input = vectors::input_buffer();
+    let mut input = vectors::buffer::<524288>();
     let n = vectors::read_full(&mut rt.stdin(), &mut input)?;
     let mut writer = BufWriter::new(rt.alloc(), rt.stdout())?;
-    replay(&mut writer, &input[..n])?;
+    vectors::replay_cases(&mut writer, &input[..n], replay_case)?;
     writer.flush()
 }

@@ -30,28 +30,26 @@ samples_more : (l : List ℕ) (i : ℕ) → i < length l → sample_bytes (take 
 samples_more l i h = rw (add-one, take-suc l i 0, samples_append, samples_one)
 
 -- What holds after i samples.
-pub record Sampled (samples : List ℕ) (i at : ℕ) (file₀ file : List ℕ) : Type 0 where
+pub record Sampled (samples : List ℕ) (i : ℕ) (file₀ file : List ℕ) : Type 0 where
   pub within : i ≤ length samples
-  pub next : at ≡ 58 + 4 * i
   pub bytes : Placed (sample_bytes (take i samples)) 58 file₀ file
 
 module _ {samples f₀ : List ℕ} (room : 58 + 4 * length samples ≤ length f₀) where
-  pub sampled_none : Sampled samples 0 58 f₀ f₀
+  pub sampled_none : Sampled samples 0 f₀ f₀
   unfolding sample_bytes
-  sampled_none = record { within = omega arith; next = refl; bytes = placed_none f₀ 58 }
+  sampled_none = record { within = omega arith; bytes = placed_none f₀ 58 }
 
-  module _ {i at : ℕ} {f : List ℕ} (h : Sampled samples i at f₀ f) where
+  module _ {i : ℕ} {f : List ℕ} (h : Sampled samples i f₀ f) where
     taken : length (sample_bytes (take i samples)) ≡ 4 * i
     taken = samples_length (take i samples) ∙ ap (λ (k : ℕ). 4 * k) (length-take-le i samples h.within)
 
     pub sampled_length : length f ≡ length f₀
     sampled_length = placed_length (omega (arith, taken, h.within)) h.bytes
 
-    pub sampled_more : {g : List ℕ} → i < length samples → Placed (little_endian 4 (get_or samples i 0)) at f g → Sampled samples (i + 1) (at + 4) f₀ g
+    pub sampled_more : {g : List ℕ} → i < length samples → Placed (little_endian 4 (get_or samples i 0)) (58 + 4 * i) f g → Sampled samples (i + 1) f₀ g
     sampled_more lt p = record {
       within = omega arith;
-      next = omega (arith, h.next);
-      bytes = rw samples_more at (placed_both (omega arith) (omega (arith, taken, h.next)) h.bytes p);
+      bytes = rw samples_more at (placed_both (omega arith) (omega (arith, taken)) h.bytes p);
     }
 
     pub sampled_all : length samples ≤ i → Placed (sample_bytes samples) 58 f₀ f

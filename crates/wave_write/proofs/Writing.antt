@@ -13,7 +13,7 @@ use Rattle.wave_file.specs.Refusal.{FileResult, refused, accepted, part_of, numb
 use Rattle.wave_file.specs.declared.refusal.FileRefusal.{FileRefusal}
 use Rattle.wave_write.specs.Header.{wave_file}
 use Rattle.wave_write.specs.Write.{write_result, file_after, Wrote}
-use Rattle.wave_write.specs.declared.write.Written.TheVariants.{Bytes, Refused}
+use Rattle.std.specs.Prelude.{Err, Ok}
 use Rattle.wave_write.proofs.Files.{file_length}
 
 module _ (rate : ℕ) (samples : List ℕ) (room : ℕ) where
@@ -45,11 +45,11 @@ module _ (rate : ℕ) (samples : List ℕ) (room : ℕ) where
             if_false _ (le-ltb _ _ l) (if_false _ (le-ltb _ _ m) (if_false _ (le-ltb _ _ n) (if_false _ (le-ltb _ _ g) refl)))
 
 module _ {rate : ℕ} {samples file₀ : List ℕ} where
-  pub wrote_nothing : (r : FileRefusal) → refused (number_of r) ≡ write_result rate samples (length file₀) → Wrote rate samples file₀ (Refused r) file₀
+  pub wrote_nothing : (r : FileRefusal) → refused (number_of r) ≡ write_result rate samples (length file₀) → Wrote rate samples file₀ (Err r) file₀
   wrote_nothing r e = record { answer = ap (part_of length) e; bytes = ap (file_after file₀) e }
 
   pub wrote_file : {file : List ℕ} → accepted (wave_file rate samples) ≡ write_result rate samples (length file₀) → Placed (wave_file rate samples) 0 file₀ file
-      → Wrote rate samples file₀ (Bytes (58 + 4 * length samples)) file
+      → Wrote rate samples file₀ (Ok (58 + 4 * length samples)) file
   wrote_file e p = record {
     answer = ap accepted (sym (file_length rate samples)) ∙ ap (part_of length) e;
     bytes = p.is ∙ rw zero-add (ap (file_after file₀) e);

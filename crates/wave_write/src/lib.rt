@@ -5,4 +5,4 @@ mod header; // header.rt: the 58 bytes before the samples
 mod samples; // samples.rt: the samples
 mod write; // write.rt: the call
 
-pub use write::{Written, write_wave};
+pub use write::write_wave;

@@ -9,11 +9,7 @@ pub(crate) fn put_samples(file: &mut [u8], samples: &[u32])
     requires { 58 + 4 * length samples.now ≤ length file.old }
     ensures { Placed (sample_bytes samples.now) 58 file.old file.new }
 {
-    let mut at = 58;
-    let mut i = 0;
-    while i < samples.len() {
-        put_u32(file, at, samples[i]);
-        at += 4;
-        i += 1;
+    for (i, sample) in samples.iter().enumerate() {
+        put_u32(file, 58 + 4 * i, *sample);
     }
 }

@@ -8,13 +8,6 @@ use crate::header::{put_data, put_fact, put_fmt, put_form};
 use crate::samples::put_samples;
 use wave_file::FileRefusal;
 
-// The file's length, or why nothing was written.
-#[derive(Clone, Copy)]
-pub enum Written {
-    Bytes(usize),
-    Refused(FileRefusal),
-}
-
 fn put_file(file: &mut [u8], rate: u32, samples: &[u32])
     requires rate_bound { rate ≤ 192000 }
     requires samples_len_bound { length samples.now ≤ 16777216 }
@@ -30,24 +23,24 @@ fn put_file(file: &mut [u8], rate: u32, samples: &[u32])
     put_samples(file, samples);
 }
 
-// Writes the file of `samples` at the start of `file`; the bytes after it stay. A refused call
-// changes nothing.
-pub fn write_wave(rate: u32, samples: &[u32], file: &mut [u8]) -> Written
+// Writes the file of `samples` at the start of `file`, and gives its length; the bytes after it stay. A
+// refused call changes nothing.
+pub fn write_wave(rate: u32, samples: &[u32], file: &mut [u8]) -> Result<usize, FileRefusal>
     ensures { Wrote rate samples.now file.old result file.new }
 {
     if rate < 8000 {
-        return Written::Refused(FileRefusal::Rate);
+        return Err(FileRefusal::Rate);
     }
     if rate > 192000 {
-        return Written::Refused(FileRefusal::Rate);
+        return Err(FileRefusal::Rate);
     }
     if samples.len() > 16777216 {
-        return Written::Refused(FileRefusal::Frames);
+        return Err(FileRefusal::Frames);
     }
     let length = 58 + 4 * samples.len();
     if file.len() < length {
-        return Written::Refused(FileRefusal::Room);
+        return Err(FileRefusal::Room);
     }
     put_file(file, rate, samples);
-    Written::Bytes(length)
+    Ok(length)
 }

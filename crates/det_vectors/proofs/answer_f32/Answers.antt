@@ -2,21 +2,21 @@
 use Rattle.programs.proofs.Grown.{grows_then}
 use Rattle.det_vectors.proofs.answer_f32.Goals as goal
 
-pub returns-in_err-answer_f32-2 : goal.returns-in_err-answer_f32-2
-returns-in_err-answer_f32-2 g c = grows_then _ _ _ c.answer_f32.ensures c.answer_f32-2.ensures
+pub returns-in_err-answer-2 : goal.returns-in_err-answer-2
+returns-in_err-answer-2 g c = grows_then _ _ _ c.answer.ensures c.answer-2.ensures
 
-pub returns-in_err-answer_f32-3 : goal.returns-in_err-answer_f32-3
-returns-in_err-answer_f32-3 g c = grows_then _ _ _ (grows_then _ _ _ c.answer_f32.ensures c.answer_f32-2.ensures) c.answer_f32-3.ensures
+pub returns-in_err-answer-3 : goal.returns-in_err-answer-3
+returns-in_err-answer-3 g c = grows_then _ _ _ (grows_then _ _ _ c.answer.ensures c.answer-2.ensures) c.answer-3.ensures
 
-pub returns-in_err-answer_f32-4 : goal.returns-in_err-answer_f32-4
-returns-in_err-answer_f32-4 g c =
-    let cosf = grows_then _ _ _ c.answer_f32.ensures c.answer_f32-2.ensures in
-    let expf = grows_then _ _ _ cosf c.answer_f32-3.ensures in
-    grows_then _ _ _ expf c.answer_f32-4.ensures
+pub returns-in_err-answer-4 : goal.returns-in_err-answer-4
+returns-in_err-answer-4 g c =
+    let cosf = grows_then _ _ _ c.answer.ensures c.answer-2.ensures in
+    let expf = grows_then _ _ _ cosf c.answer-3.ensures in
+    grows_then _ _ _ expf c.answer-4.ensures
 
 pub returns : goal.returns
 returns g c =
-    let cosf = grows_then _ _ _ c.answer_f32.ensures c.answer_f32-2.ensures in
-    let expf = grows_then _ _ _ cosf c.answer_f32-3.ensures in
-    let lnf = grows_then _ _ _ expf c.answer_f32-4.ensures in
-    grows_then _ _ _ lnf c.answer_f32-5.ensures
+    let cosf = grows_then _ _ _ c.answer.ensures c.answer-2.ensures in
+    let expf = grows_then _ _ _ cosf c.answer-3.ensures in
+    let lnf = grows_then _ _ _ expf c.answer-4.ensures in
+    grows_then _ _ _ lnf c.answer-5.ensures

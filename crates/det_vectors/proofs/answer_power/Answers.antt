@@ -3,4 +3,4 @@ use Rattle.programs.proofs.Grown.{grows_then}
 use Rattle.det_vectors.proofs.answer_power.Goals as goal
 
 pub returns : goal.returns
-returns g c = grows_then _ _ _ c.answer_f64.ensures c.answer_f32.ensures
+returns g c = grows_then _ _ _ c.answer.ensures c.answer-2.ensures

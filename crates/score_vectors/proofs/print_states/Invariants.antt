@@ -5,6 +5,3 @@ use Rattle.score_vectors.proofs.print_states.Given as goal
 
 abbrev pub invariant-loop-k : goal.invariant-loop-k
 invariant-loop-k g l = (l.k ≤ 8) × Grows (g.W.Write.contents l.initial.writer) (g.W.Write.contents l.writer)
-
-abbrev pub decreases-loop-k : goal.decreases-loop-k
-decreases-loop-k g l = 8 - l.k

@@ -2,8 +2,8 @@
 use Rattle.programs.proofs.Grown.{grows_then}
 use Rattle.score_vectors.proofs.replay_line.Goals as goal
 
-pub returns-then-is_named : goal.returns-then-is_named
-returns-then-is_named g c = grows_then _ _ _ c.print_text.ensures.grows c.open.ensures
+pub returns-in_err-print_text : goal.returns-in_err-print_text
+returns-in_err-print_text g c = grows_then _ _ _ c.answer_line.ensures c.print_text.ensures.grows
 
 pub returns : goal.returns
-returns g c = grows_then _ _ _ c.print_text.ensures.grows c.score_line.ensures
+returns g c = grows_then _ _ _ c.answer_line.ensures c.print_text.ensures.grows

@@ -12,12 +12,12 @@ use borrow.Author.Rules.{rules}
 use Rattle.tono.proofs.tono_play.Goals as goal
 
 -- a slice has fewer than 2^63 bytes
-pub as_i64-requires : goal.as_i64-requires
-as_i64-requires c =
+pub reply_as_i64-requires : goal.reply_as_i64-requires
+reply_as_i64-requires c =
     let within_slice : (n : ℕ) → n ≤ length c.args.reply.now → n < 2 ^ 63 = λ n h. omega arith in
     within_slice _ (reply_within c.play_text-said.ensures)
 
 pub returns : goal.returns
 returns c =
-    let s : SFits w64 c.as_i64.result = search rules in
-    reply_returned c.play_text-said.ensures (to_z-of_z s ∙ c.as_i64.ensures)
+    let s : SFits w64 c.reply_as_i64.result = search rules in
+    reply_returned c.play_text-said.ensures (to_z-of_z s ∙ c.reply_as_i64.ensures)

@@ -15,15 +15,15 @@ use Rattle.tono_text.proofs.cue_sheet.Goals as goal
 pub length_as_i64-requires : goal.length_as_i64-requires
 length_as_i64-requires c =
     let within_slice : (n : ℕ) → n ≤ length c.args.page.now → n < 2 ^ 63 = λ n h. omega arith in
-    let fits = bytes_within c.args.score.now c.sheet_text.ensures _ c.in-Bytes.is in
+    let fits = bytes_within c.args.score.now c.sheet_text.ensures _ c.in-Ok.is in
     within_slice _ (omega (arith, fits, c.sheet_text.auto.page))
 
-pub returns-in-Bytes : goal.returns-in-Bytes
-returns-in-Bytes c =
+pub returns-in-Ok : goal.returns-in-Ok
+returns-in-Ok c =
     let s : SFits w64 c.length_as_i64.result = search rules in
-    length_returned c.args.score.now c.sheet_text.ensures _ c.in-Bytes.is (to_z-of_z s ∙ c.length_as_i64.ensures)
+    length_returned c.args.score.now c.sheet_text.ensures _ c.in-Ok.is (to_z-of_z s ∙ c.length_as_i64.ensures)
 
-pub returns-in-Refused : goal.returns-in-Refused
-returns-in-Refused c =
+pub returns-in-Err : goal.returns-in-Err
+returns-in-Err c =
     let s : SFits w64 c.minus_number.result = search rules in
-    refusal_returned c.args.score.now c.sheet_text.ensures _ c.in-Refused.is (to_z-of_z s ∙ c.minus_number.ensures)
+    refusal_returned c.args.score.now c.sheet_text.ensures _ c.in-Err.is (to_z-of_z s ∙ c.minus_number.ensures)

@@ -15,15 +15,15 @@ use Rattle.tono_wave.proofs.read.Goals as goal
 pub length_as_i64-requires : goal.length_as_i64-requires
 length_as_i64-requires c =
     let within_slice : (n : ℕ) → n ≤ length c.args.samples.now → n < 2 ^ 63 = λ n h. omega arith in
-    let fits = samples_fit c.read_wave.ensures _ _ c.in-Samples.is in
+    let fits = samples_fit c.read_wave.ensures _ c.in-Ok.is in
     within_slice _ (omega (arith, fits, c.read_wave.auto.samples))
 
-pub returns-in-Samples : goal.returns-in-Samples
-returns-in-Samples c =
+pub returns-in-Ok : goal.returns-in-Ok
+returns-in-Ok c =
     let s : SFits w64 c.length_as_i64.result = search rules in
-    read_count c.read_wave.ensures _ _ _ c.in-Samples.is (to_z-of_z s ∙ c.length_as_i64.ensures)
+    read_count c.read_wave.ensures _ _ c.in-Ok.is (to_z-of_z s ∙ c.length_as_i64.ensures)
 
-pub returns-in-Refused : goal.returns-in-Refused
-returns-in-Refused c =
+pub returns-in-Err : goal.returns-in-Err
+returns-in-Err c =
     let s : SFits w64 c.minus_number.result = search rules in
-    read_refused c.read_wave.ensures _ _ c.in-Refused.is c.number.ensures (to_z-of_z s ∙ c.minus_number.ensures)
+    read_refused c.read_wave.ensures _ _ c.in-Err.is c.number.ensures (to_z-of_z s ∙ c.minus_number.ensures)

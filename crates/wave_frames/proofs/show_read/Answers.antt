@@ -1,6 +1,5 @@
 -- `wave_frames::show_read` meets its contract. Assumes nothing.
 use Rattle.wave_frames.proofs.Shown.{read_shown, written_counts}
-use borrow.Author.Rules.{rules}
 use Rattle.wave_frames.proofs.show_read.Goals as goal
 
 pub slice_bounds-put_file_lines-end : goal.slice_bounds-put_file_lines-end

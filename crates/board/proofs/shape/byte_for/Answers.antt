@@ -1,5 +1,4 @@
 -- `board::shape::byte_for` meets its contract. Assumes nothing.
-use borrow.Author.Rules.{rules}
 use mathlib.Core.Path.{refl, sym, ◌∙◌}
 use Rattle.laws.proofs.If.{if_true, if_false}
 use Rattle.board.specs.Shape.{byte_for}

@@ -1,5 +1,4 @@
 -- `board::shape::covered` meets its contract. Assumes nothing.
-use borrow.Author.Rules.{rules}
 use Rattle.board.proofs.Shapes.{covers_after, covers_not}
 use Rattle.board.proofs.shape.covered.Goals as goal
 

@@ -1,5 +1,4 @@
 -- `board::shape::is_inside` meets its contract. Assumes nothing.
-use borrow.Author.Rules.{rules}
 use Rattle.board.proofs.Shapes.{inside_is, inside_far}
 use Rattle.board.proofs.shape.is_inside.Goals as goal
 

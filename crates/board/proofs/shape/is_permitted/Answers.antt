@@ -1,5 +1,4 @@
 -- `board::shape::is_permitted` meets its contract. Assumes nothing.
-use borrow.Author.Rules.{rules}
 use Rattle.board.specs.Shape.{permitted}
 use Rattle.board.proofs.shape.is_permitted.Goals as goal
 

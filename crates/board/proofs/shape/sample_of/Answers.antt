@@ -1,5 +1,4 @@
 -- `board::shape::sample_of` meets its contract. Assumes nothing.
-use borrow.Author.Rules.{rules}
 use Rattle.board.specs.Shape.{sample_of}
 use Rattle.board.proofs.shape.sample_of.Goals as goal
 

@@ -3,11 +3,10 @@ use Prim.Native.Nat.{◌<◌}
 use lib.ListN.{length}
 use native.Mathlib.Omega.{arith}
 use Rattle.harness_board.proofs.Steps.{halts, read_cut, read_next}
-use borrow.Author.Rules.{rules}
 use Rattle.harness_board.proofs.step.read_step.Goals as goal
 
 pub returns-then-at-ops : goal.returns-then-at-ops
-returns-then-at-ops c = halts _ c.halt.result _ _ c.halt.ensures (read_cut _ _ c.if-at-ops.true)
+returns-then-at-ops c = halts _ _ (read_cut _ _ c.if-at-ops.true)
 
 pub returns : goal.returns
 returns c =

@@ -2,11 +2,10 @@
 use mathlib.Core.Path.{◌∙◌}
 use borrow.Author.Tests.{eq-eqb, ne_eqb}
 use Rattle.harness_board.proofs.Steps.{halts, next_none, next_is}
-use borrow.Author.Rules.{rules}
 use Rattle.harness_board.proofs.step.step_at.Goals as goal
 
 pub returns-then-at-ops : goal.returns-then-at-ops
-returns-then-at-ops c = halts _ c.halt.result _ _ c.halt.ensures (next_none _ _ c.if-at-ops.true)
+returns-then-at-ops c = halts _ _ (next_none _ _ c.if-at-ops.true)
 
 pub returns-then-kind-eq0 : goal.returns-then-kind-eq0
 returns-then-kind-eq0 c =
@@ -30,5 +29,5 @@ pub returns : goal.returns
 returns c =
     let a = c.args in
     let n = next_is a.ops.now a.at c.if-at-ops.false in
-    halts _ c.halt-2.result _ _ c.halt-2.ensures
+    halts _ _
     (n ∙ rw (ne_eqb _ _ c.if-kind-eq0.false, ne_eqb _ _ c.if-kind-eq1.false, ne_eqb _ _ c.if-kind-eq2.false))

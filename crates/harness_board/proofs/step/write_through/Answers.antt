@@ -1,6 +1,5 @@
 -- `harness_board::step::write_through` meets its contract. Assumes nothing.
 use mathlib.Core.Path.{◌∙◌}
-use borrow.Author.Rules.{rules}
 use Rattle.harness_board.proofs.step.write_through.Goals as goal
 
 pub returns : goal.returns

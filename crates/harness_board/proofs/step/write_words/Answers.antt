@@ -2,7 +2,6 @@
 use mathlib.Core.Path.{sym}
 use lib.Seq.{length-take-le}
 use Rattle.board.proofs.Writes.{long_refused}
-use borrow.Author.Rules.{rules}
 use Rattle.harness_board.proofs.step.write_words.Goals as goal
 
 pub returns-then-count-gt8 : goal.returns-then-count-gt8

@@ -27,8 +27,8 @@ offset_bounds-bits-i c = search rules
 pub bounds-bits-i : goal.bounds-bits-i
 bounds-bits-i c = omega (arith, filled_length c.loop-i.invariant.0, c.requires)
 
-pub overflow_add-i : goal.overflow_add-i
-overflow_add-i c = search rules
+pub overflow_step-i : goal.overflow_step-i
+overflow_step-i c = search rules
 
 pub loop-i-smaller : goal.loop-i-smaller
 loop-i-smaller c = search rules

@@ -11,6 +11,3 @@ use Rattle.text_wave.proofs.bits.put_bits.Given as goal
 
 abbrev pub invariant-loop-i : goal.invariant-loop-i
 invariant-loop-i l = Filled (pattern l.frames) (λ y. y) (λ y. 0) 0 l.initial.bits l.i l.bits 0 × l.i ≤ length l.frames
-
-abbrev pub decreases-loop-i : goal.decreases-loop-i
-decreases-loop-i l = length l.frames - l.i

@@ -12,14 +12,14 @@ slice_bounds-write_wave-end c =
     let a = c.args in
     sym (ap length (ap (take (length a.frames.now)) c.put_bits.ensures ∙ taken a.frames.now _) ∙ length-map a.frames.now frame_bits)
 
-pub returns-in-Bytes : goal.returns-in-Bytes
-returns-in-Bytes c =
+pub returns-in-Ok : goal.returns-in-Ok
+returns-in-Ok c =
     let a = c.args in
     let bits = ap (take (length a.frames.now)) c.put_bits.ensures ∙ taken a.frames.now _ in
-    filed_bytes (rw bits at c.write_wave.ensures) _ c.in-Bytes.is
+    filed_bytes (rw bits at c.write_wave.ensures) _ c.in-Ok.is
 
-pub returns-in-Refused : goal.returns-in-Refused
-returns-in-Refused c =
+pub returns-in-Err : goal.returns-in-Err
+returns-in-Err c =
     let a = c.args in
     let bits = ap (take (length a.frames.now)) c.put_bits.ensures ∙ taken a.frames.now _ in
-    filed_refusal (rw bits at c.write_wave.ensures) _ c.in-Refused.is c.number.ensures
+    filed_refusal (rw bits at c.write_wave.ensures) _ c.in-Err.is c.number.ensures

@@ -10,6 +10,6 @@ returns-in_default c = not_called _ (sym c.in_default.is ∙ c.voice_at.ensures)
 
 pub returns : goal.returns
 returns c =
-    let voice = sym c.in-Voice.is ∙ c.voice_at.ensures in
+    let voice = sym c.in-Some.is ∙ c.voice_at.ensures in
     let call = c.seq_note_signal-answer.ensures in
     call_holds _ _ _ _ voice c.new-rng.ensures call c.number_of.ensures c.draws_of.ensures c.state.ensures

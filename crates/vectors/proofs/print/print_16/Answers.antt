@@ -1,5 +1,4 @@
 -- `vectors::print::print_16` meets its contract. Assumes nothing.
-use Rattle.std.proofs.Common.{rules}
 use Rattle.vectors.proofs.Spaced.{room_16, spaced_16}
 use Rattle.vectors.proofs.print.print_16.Goals as goal
 

@@ -1,5 +1,4 @@
 -- `vectors::print::print_8` meets its contract. Assumes nothing.
-use Rattle.std.proofs.Common.{rules}
 use Rattle.vectors.proofs.Spaced.{room_8, spaced_8}
 use Rattle.vectors.proofs.print.print_8.Goals as goal
 

@@ -1,21 +1,23 @@
 -- `wave_read::read::read_wave` meets its contract. Assumes nothing.
 use Rattle.wave_read.proofs.Ending.{read_reach, read_broken, read_short, read_all}
-use borrow.Author.Rules.{rules}
+use Rattle.std.proofs.Common.{◌≡◌, Err, rules}
 use Rattle.wave_read.proofs.read.read_wave.Goals as goal
 
-pub returns-then-samples-count : goal.returns-then-samples-count
-returns-then-samples-count c = read_short c.find_samples.ensures _ _ _ c.in-At.is c.if-samples-count.true
+pub returns-then-samples-place : goal.returns-then-samples-place
+returns-then-samples-place c = read_short c.find_samples.ensures _ c.in_ok-place.was c.if-samples-place.true
 
 pub copy_samples-requires : goal.copy_samples-requires
 copy_samples-requires c =
     record {
-      count_in_bounds = read_reach c.find_samples.ensures _ _ _ c.in-At.is;
+      count_in_bounds = read_reach c.find_samples.ensures _ c.in_ok-place.was;
       count_in_bounds_2 = search rules;
     }
 
-pub returns-in-Broken : goal.returns-in-Broken
-returns-in-Broken c = read_broken c.find_samples.ensures _ c.in-Broken.is
+pub returns-in_err-place : goal.returns-in_err-place
+returns-in_err-place c =
+    let fault : c.from_residual.result ≡ Err c.in_err-place.field-0.0 = search rules in
+    rw fault (read_broken c.find_samples.ensures _ c.in_err-place.was)
 
-pub returns-else-samples-count : goal.returns-else-samples-count
-returns-else-samples-count c =
-    read_all c.find_samples.ensures _ _ _ c.in-At.is c.if-samples-count.false c.copy_samples.ensures
+pub returns : goal.returns
+returns c =
+    read_all c.find_samples.ensures _ c.in_ok-place.was c.if-samples-place.false c.copy_samples.ensures

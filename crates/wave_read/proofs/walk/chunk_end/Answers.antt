@@ -1,7 +1,6 @@
 -- `wave_read::walk::chunk_end` meets its contract. Assumes nothing.
 use native.Mathlib.Omega.{arith}
 use Rattle.wave_read.proofs.Judging.{field_in}
-use borrow.Author.Rules.{rules}
 use Rattle.wave_read.proofs.walk.chunk_end.Goals as goal
 
 pub returns : goal.returns

@@ -1,11 +1,8 @@
 -- The loops of `wave_read::walk::find_data`.
-use native.Mathlib.Omega.{arith}
-use borrow.Author.Rules.{rules}
 use Prim.Native.Nat.{◌-◌}
-use mathlib.Core.Path.{◌≡◌, refl}
+use mathlib.Core.Path.{◌≡◌}
 use lib.ListN.{length, drop}
 use Rattle.wave_read.specs.Reading.{walk}
-use Rattle.wave_read.proofs.Walking.{fault_here, data_fits, data_here, next_fits, next_here, walk_end}
 use Rattle.wave_read.proofs.walk.find_data.Given as goal
 
 abbrev pub invariant-loop-at : goal.invariant-loop-at

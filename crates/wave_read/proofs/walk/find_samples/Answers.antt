@@ -1,6 +1,5 @@
 -- `wave_read::walk::find_samples` meets its contract. Assumes nothing.
 use Rattle.wave_read.proofs.Ending.{too_short, not_riff, not_size, not_wave, begun}
-use borrow.Author.Rules.{rules}
 use Rattle.wave_read.proofs.walk.find_samples.Goals as goal
 
 pub returns-then-file-lt12 : goal.returns-then-file-lt12

@@ -12,9 +12,6 @@ loop-i-init c = sampled_none c.requires
 pub put_u32-requires : goal.put_u32-requires
 put_u32-requires c = omega (arith, sampled_length c.requires c.loop-i.invariant)
 
-pub overflow_add-at : goal.overflow_add-at
-overflow_add-at c = omega (arith, c.loop-i.invariant.next)
-
 pub loop-i-preserved : goal.loop-i-preserved
 loop-i-preserved c =
     sampled_more c.requires c.loop-i.invariant (search rules) c.put_u32.ensures

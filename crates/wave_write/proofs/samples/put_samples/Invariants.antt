@@ -7,7 +7,4 @@ use Rattle.wave_write.proofs.Files.{Sampled, sampled_none, sampled_length, sampl
 use Rattle.wave_write.proofs.samples.put_samples.Given as goal
 
 abbrev pub invariant-loop-i : goal.invariant-loop-i
-invariant-loop-i l = Sampled l.samples l.i l.at l.initial.file l.file
-
-abbrev pub decreases-loop-i : goal.decreases-loop-i
-decreases-loop-i l = length l.samples - l.i
+invariant-loop-i l = Sampled l.samples l.i l.initial.file l.file

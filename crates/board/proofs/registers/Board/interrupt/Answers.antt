@@ -1,5 +1,4 @@
 -- `board::registers::Board::interrupt` meets its contract. Assumes nothing.
-use borrow.Author.Rules.{rules}
 use Rattle.board.specs.Registers.{interrupt_of}
 use Rattle.board.proofs.Bytes.{line_by_status}
 use Rattle.board.proofs.registers.Board.interrupt.Goals as goal

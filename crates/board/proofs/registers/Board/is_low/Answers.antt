@@ -1,5 +1,4 @@
 -- `board::registers::Board::is_low` meets its contract. Assumes nothing.
-use borrow.Author.Rules.{rules}
 use Rattle.board.proofs.registers.Board.is_low.Goals as goal
 
 pub returns : goal.returns

@@ -1,5 +1,4 @@
 -- `board::registers::Board::new` meets its contract. Assumes nothing.
-use borrow.Author.Rules.{rules}
 use Rattle.board.proofs.registers.Board.new.Goals as goal
 
 pub returns : goal.returns

@@ -1,5 +1,4 @@
 -- `board::registers::Board::status` meets its contract. Assumes nothing.
-use borrow.Author.Rules.{rules}
 use Rattle.board.specs.Registers.{status_of}
 use Rattle.board.proofs.registers.Board.status.Goals as goal
 

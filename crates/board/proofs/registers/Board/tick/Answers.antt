@@ -1,5 +1,4 @@
 -- `board::registers::Board::tick` meets its contract. Assumes nothing.
-use borrow.Author.Rules.{rules}
 use mathlib.Core.Path.{sym, ◌∙◌}
 use borrow.Author.Tests.{not-true, not-false}
 use Rattle.board.proofs.TickEnds.{stopped, starved, took}
