@@ -10,7 +10,8 @@ from typing import Dict, Iterator, List, NamedTuple, Set, Tuple
 DOCUMENTS = ["README.md", "CHANGELOG.md", *sorted(str(p) for p in Path("docs").glob("*.md"))]
 # The documents whose names are looked up: not those that tell of runs and earlier trees, nor the page of an installation,
 # whose files are elsewhere.
-TOLD = ("CHANGELOG.md", "docs/LANDINGS.md", "docs/PORT.md", "docs/COMPARISON.md", "docs/PERFORMANCE.md", "docs/install.md")
+TOLD = ("CHANGELOG.md", "docs/LANDINGS.md", "docs/PORT.md", "docs/DESIGN-PASS.md", "docs/COMPARISON.md", "docs/PERFORMANCE.md",
+        "docs/install.md")
 NAMED = [document for document in DOCUMENTS if document not in TOLD]
 
 # Names that the documents cite and that are not this repository's: the original's, Rust's, the C library's, programs'.
