@@ -15,6 +15,8 @@ pub(crate) fn play_score(score: TextScore, notes: &[u32], reply: &mut [u8]) -> O
     requires { score.numbers.n ≤ 2048 }
     ensures { Fitted (played (seq_of score.numbers score.env score.sound) notes.now score.numbers.n score.seed score.draw) reply.old result reply.new }
 {
+    // before the buffers, so that what is needed only to make it may lie where they do: tono.h says how much stack the call takes
+    let seq = score.seq();
     let lane = [0.0f32; 1];
     let mut frames = frames_buffer();
     let mut note_buf = frames_buffer();
@@ -22,7 +24,6 @@ pub(crate) fn play_score(score: TextScore, notes: &[u32], reply: &mut [u8]) -> O
     let session = Session::open(score.seed, score.draw);
     let numbers = score.numbers;
     let n = numbers.n as usize;
-    let seq = score.seq();
     let out = &mut frames[..n];
     let answer = seq::render_seq(
         session,

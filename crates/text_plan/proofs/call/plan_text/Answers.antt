@@ -14,13 +14,13 @@ overflow_mul-score c =
 
 pub slice_bounds-plan_score-end : goal.slice_bounds-plan_score-end
 slice_bounds-plan_score-end c =
-    let past = judged_past _ _ c.requires c.judge_text.ensures c.in_ok-score.was in
-    omega (arith, past.few, c.requires, c.judge_text.auto.words)
+    let whole = judged_past _ _ c.requires c.judge_text.ensures c.in_ok-score.was in
+    omega (arith, whole.few, c.requires, c.judge_text.auto.words)
 
 pub slice_bounds-plan_score-end-2 : goal.slice_bounds-plan_score-end-2
 slice_bounds-plan_score-end-2 c =
-    let past = judged_past _ _ c.requires c.judge_text.ensures c.in_ok-score.was in
-    sym (length-take-le _ _ (omega (arith, past.few, c.requires, c.judge_text.auto.words)))
+    let cut = judged_past _ _ c.requires c.judge_text.ensures c.in_ok-score.was in
+    sym (length-take-le _ _ (omega (arith, cut.few, c.requires, c.judge_text.auto.words)))
 
 pub returns-in_err-score : goal.returns-in_err-score
 returns-in_err-score c =

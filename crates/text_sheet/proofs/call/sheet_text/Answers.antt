@@ -13,13 +13,13 @@ overflow_mul-words c =
 
 pub slice_bounds-words-end : goal.slice_bounds-words-end
 slice_bounds-words-end c =
-    let few = words_few 0 c.plan_text.ensures (omega (arith, c.words_buffer-words.ensures)) c.in_ok-score.was in
+    let whole = words_few 0 c.plan_text.ensures (omega (arith, c.words_buffer-words.ensures)) c.in_ok-score.was in
     let kept = c.plan_text.auto.words in
     omega (arith, c.words_buffer-words.ensures)
 
 pub slice_bounds-print_score-end : goal.slice_bounds-print_score-end
 slice_bounds-print_score-end c =
-    let few = words_few 0 c.plan_text.ensures (omega (arith, c.words_buffer-words.ensures)) c.in_ok-score.was in
+    let cut = words_few 0 c.plan_text.ensures (omega (arith, c.words_buffer-words.ensures)) c.in_ok-score.was in
     let kept = c.plan_text.auto.words in
     sym (length-take-le _ _ (omega (arith, c.words_buffer-words.ensures)))
 
