@@ -1,4 +1,4 @@
--- The notes of a score, one after the other. `Playing` is the loop's invariant, and `Counting` where the draws are counted too. Assumes nothing.
+-- The notes of a score, one after the other. `Playing` is the loop's invariant. Assumes nothing.
 use Prim.Native.Nat.{ℕ, ◌+◌, ◌-◌, ◌^◌, ◌≤◌, ◌<◌}
 use mathlib.Core.Path.{◌≡◌, refl, sym, ap, ◌∙◌}
 use mathlib.Core.List.{List}
@@ -17,25 +17,32 @@ use Rattle.score_note.specs.Drawn.{drawn_from}
 use Rattle.score_note.specs.declared.Drawn.{Drawn}
 use Rattle.score_contract.specs.Frames.{with_note, frames_after, score_frames}
 
--- What holds before note k, g being the generator's state at first: r is its state, and of the buffers what is not free is as it was.
-pub record Playing (s : Score) (g : ℕ) (buffer₀ string₀ : List Float) (k r : ℕ) (out buffer string : List Float) : Type 0 where
-  pub within : k ≤ note_count s
-  pub state : r ≡ state_after g (draws_before s k)
-  pub frames : out ≡ frames_after s g 0 k
+-- the generator's state r is that after the first k notes, from g on
+abbrev pub At : Score → ℕ → ℕ → ℕ → Type 0
+At s g k r = r ≡ state_after g (draws_before s k)
+
+-- What holds before note k of a loop that began before note i, at the generator's state r₀ and the frames out₀, and ends before note
+-- `most`: r is the generator's state, d are the draws from note i on where those before `most` fit 64 bits, and of the buffers what is
+-- not free is as it was.
+pub record Playing (s : Score) (i r₀ : ℕ) (out₀ buffer₀ string₀ : List Float) (most k r d : ℕ) (out buffer string : List Float) : Type 0 where
+  pub within : k ≤ most
+  pub state : (g : ℕ) → At s g i r₀ → At s g k r
+  pub drawn : draws_before s most < 2 ^ 64 → draws_before s i + d ≡ draws_before s k
+  pub frames : (g : ℕ) → At s g i r₀ → out₀ ≡ frames_after s g 0 i → out ≡ frames_after s g 0 k
   pub room : length out ≡ s.n
   pub buffered : length buffer ≡ s.room
   pub stringed : length string ≡ s.string
   pub buffer_kept : drop s.n buffer ≡ drop s.n buffer₀
   pub string_kept : drop 9600 string ≡ drop 9600 string₀
 
-module _ {s : Score} {g : ℕ} {buffer₀ string₀ : List Float} where
-  pub playing_none : {out : List Float} → g < 2 ^ 64 → out ≡ silence s.n → length out ≡ s.n → length buffer₀ ≡ s.room → length string₀ ≡ s.string
-      → Playing s g buffer₀ string₀ 0 g out buffer₀ string₀
-  unfolding draws_before frames_after
-  playing_none fits e len b t = record {
-    within = omega arith;
-    state = sym (state_none g fits);
-    frames = e;
+module _ {s : Score} {i r₀ : ℕ} {out₀ buffer₀ string₀ : List Float} {most : ℕ} where
+  pub playing_none : i ≤ most → length out₀ ≡ s.n → length buffer₀ ≡ s.room → length string₀ ≡ s.string
+      → Playing s i r₀ out₀ buffer₀ string₀ most i r₀ 0 out₀ buffer₀ string₀
+  playing_none le len b t = record {
+    within = le;
+    state = λ g at. at;
+    drawn = λ few. omega arith;
+    frames = λ g at e. e;
     room = len;
     buffered = b;
     stringed = t;
@@ -43,64 +50,62 @@ module _ {s : Score} {g : ℕ} {buffer₀ string₀ : List Float} where
     string_kept = refl;
   }
 
-  module _ {k r : ℕ} {out buffer string : List Float} (h : Playing s g buffer₀ string₀ k r out buffer string) where
-    pub playing_more : {r' : ℕ} {out' buffer' string' : List Float} → k < note_count s → r' ≡ state_after r (note_draws s (note_in s k)) → out' ≡ with_note s (note_in s k) r out
+  module _ {k r d : ℕ} {out buffer string : List Float} (h : Playing s i r₀ out₀ buffer₀ string₀ most k r d out buffer string) where
+    -- the draws with those of note k fit wherever those of all notes do
+    pub playing_fits : k < most → {p : Drawn} → p ≡ drawn_from r (note_draws s (note_in s k)) → draws_before s most < 2 ^ 64 → d + p.draws < 2 ^ 64
+    playing_fits lt {p} es few =
+        let sum : draws_before s k + p.draws ≡ draws_before s (k + 1) = (λ j. draws_before s k + (es j).draws) ∙ draws_one s k in
+        let z : k + 1 + (most - (k + 1)) ≡ most = omega arith in
+        let less : draws_before s (k + 1) ≤ draws_before s most = rw z at (draws_more s (k + 1) (most - (k + 1))) in
+        omega (arith, sum, less, h.drawn few)
+
+    pub playing_more : {p : Drawn} {d' : ℕ} {out' buffer' string' : List Float} → k < most → p ≡ drawn_from r (note_draws s (note_in s k))
+        → (draws_before s most < 2 ^ 64 → d' ≡ d + p.draws) → out' ≡ with_note s (note_in s k) r out
         → length out' ≡ length out → length buffer' ≡ length buffer → length string' ≡ length string → drop s.n buffer' ≡ drop s.n buffer → drop 9600 string' ≡ drop 9600 string
-        → Playing s g buffer₀ string₀ (k + 1) r' out' buffer' string'
+        → Playing s i r₀ out₀ buffer₀ string₀ most (k + 1) p.rng.0 d' out' buffer' string'
     unfolding draws_before frames_after
-    playing_more lt es eo lo lb ls kb ks =
-        let from : r ≡ state_after g (0 + draws_before s k) = h.state ∙ ap (state_after g) (sym (zero-add (draws_before s k))) in record {
-          within = omega arith;
-          state = rw add-one (es ∙ ap (λ (x : ℕ). state_after x (note_draws s (note_in s k))) h.state ∙ state_add g (draws_before s k) (note_draws s (note_in s k)));
-          frames = rw add-one (eo ∙ (λ j. with_note s (note_in s k) (from j) (h.frames j)));
-          room = lo ∙ h.room;
-          buffered = lb ∙ h.buffered;
-          stringed = ls ∙ h.stringed;
-          buffer_kept = kb ∙ h.buffer_kept;
-          string_kept = ks ∙ h.string_kept;
-        }
-
-    pub playing_state : note_count s ≤ k → r ≡ state_after g (score_draws s)
-    playing_state end =
-        let z : k ≡ note_count s = omega (arith, h.within) in
-        h.state ∙ ap (λ (k : ℕ). state_after g (draws_before s k)) z ∙ ap (state_after g) (sym (draws_all s))
-
-    pub playing_frames : note_count s ≤ k → out ≡ score_frames s g 0
-    unfolding score_frames
-    playing_frames end = let z : k ≡ note_count s = omega (arith, h.within) in h.frames ∙ ap (frames_after s g 0) z
-
--- ---- where the draws are counted: d are those before note k
-pub record Counting (s : Score) (g : ℕ) (buffer₀ string₀ : List Float) (k r d : ℕ) (out buffer string : List Float) : Type 0 where
-  pub playing : Playing s g buffer₀ string₀ k r out buffer string
-  pub drawn : d ≡ draws_before s k
-
-module _ {s : Score} {g : ℕ} {buffer₀ string₀ : List Float} where
-  pub counting_none : {out : List Float} → g < 2 ^ 64 → out ≡ silence s.n → length out ≡ s.n → length buffer₀ ≡ s.room → length string₀ ≡ s.string
-      → Counting s g buffer₀ string₀ 0 g 0 out buffer₀ string₀
-  unfolding draws_before
-  counting_none fits e len b t = record { playing = playing_none fits e len b t; drawn = refl }
-
-  module _ {k r d : ℕ} {out buffer string : List Float} (h : Counting s g buffer₀ string₀ k r d out buffer string) where
-    pub counting_more : {p : Drawn} {out' buffer' string' : List Float} → k < note_count s → p ≡ drawn_from r (note_draws s (note_in s k)) → out' ≡ with_note s (note_in s k) r out
-        → length out' ≡ length out → length buffer' ≡ length buffer → length string' ≡ length string → drop s.n buffer' ≡ drop s.n buffer → drop 9600 string' ≡ drop 9600 string
-        → Counting s g buffer₀ string₀ (k + 1) p.rng.0 (d + p.draws) out' buffer' string'
-    unfolding draws_before
-    counting_more lt es eo lo lb ls kb ks = record {
-      playing = playing_more h.playing lt (ap (λ (z : Drawn). z.rng.0) es) eo lo lb ls kb ks;
-      drawn = (λ j. h.drawn j + (es j).draws) ∙ draws_one s k;
+    playing_more {p} lt es ed eo lo lb ls kb ks = record {
+      within = omega arith;
+      state = λ g at. rw add-one ((λ j. (es j).rng.0) ∙ ap (λ (x : ℕ). state_after x (note_draws s (note_in s k))) (h.state g at)
+          ∙ state_add g (draws_before s k) (note_draws s (note_in s k)));
+      drawn = λ few.
+          let sum : draws_before s k + p.draws ≡ draws_before s (k + 1) = (λ j. draws_before s k + (es j).draws) ∙ draws_one s k in
+          omega (arith, sum, ed few, h.drawn few);
+      frames = λ g at first. rw add-one (eo ∙ (λ j. with_note s (note_in s k) ((h.state g at ∙ ap (state_after g) (sym (zero-add (draws_before s k)))) j) (h.frames g at first j)));
+      room = lo ∙ h.room;
+      buffered = lb ∙ h.buffered;
+      stringed = ls ∙ h.stringed;
+      buffer_kept = kb ∙ h.buffer_kept;
+      string_kept = ks ∙ h.string_kept;
     }
 
-    -- the draws with those of note k fit wherever those of all notes do
-    pub counting_fits : k < note_count s → {p : Drawn} → p ≡ drawn_from r (note_draws s (note_in s k)) → score_draws s < 2 ^ 64 → d + p.draws < 2 ^ 64
-    counting_fits lt {p} es fits =
-        let sum : d + p.draws ≡ draws_before s (k + 1) = (λ j. h.drawn j + (es j).draws) ∙ draws_one s k in
-        let z : k + 1 + (note_count s - (k + 1)) ≡ note_count s = omega arith in
-        let most : draws_before s (k + 1) ≤ draws_before s (note_count s) = rw z at (draws_more s (k + 1) (note_count s - (k + 1))) in
-        omega (arith, sum, most, draws_all s)
+    -- at the loop's end
+    pub playing_end : most ≤ k → Playing s i r₀ out₀ buffer₀ string₀ most most r d out buffer string
+    playing_end end = let z : k ≡ most = omega (arith, h.within) in rw z at h
 
-    pub counting_all : note_count s ≤ k → record { rng = record { 0 = r }; draws = d } ≡ drawn_from g (score_draws s)
-    counting_all end =
-        let z : k ≡ note_count s = omega (arith, h.playing.within) in
-        let all : d ≡ score_draws s = h.drawn ∙ ap (draws_before s) z ∙ sym (draws_all s) in
-        let state = playing_state h.playing end in
-        (λ j. record { rng = record { 0 = state j }; draws = all j })
+-- ---- from the first note to the last, that is to note k where k is the count of notes
+pub at_start : (s : Score) (g : ℕ) → g < 2 ^ 64 → At s g 0 g
+unfolding draws_before
+at_start s g fits = sym (state_none g fits)
+
+pub silent_start : (s : Score) (g : ℕ) {out : List Float} → out ≡ silence s.n → out ≡ frames_after s g 0 0
+unfolding frames_after
+silent_start s g e = e
+
+module _ (s : Score) (g : ℕ) {k : ℕ} where
+  pub all_state : {r : ℕ} → At s g k r → k ≡ note_count s → r ≡ state_after g (score_draws s)
+  all_state at all = at ∙ ap (λ (k : ℕ). state_after g (draws_before s k)) all ∙ ap (state_after g) (sym (draws_all s))
+
+  pub all_frames : {out : List Float} → out ≡ frames_after s g 0 k → k ≡ note_count s → out ≡ score_frames s g 0
+  unfolding score_frames
+  all_frames e all = e ∙ ap (frames_after s g 0) all
+
+  pub all_drawn : {p : Drawn} → At s g k p.rng.0 → (draws_before s k < 2 ^ 64 → draws_before s 0 + p.draws ≡ draws_before s k) → score_draws s < 2 ^ 64 → k ≡ note_count s
+      → p ≡ drawn_from g (score_draws s)
+  unfolding draws_before
+  all_drawn {p} at drawn few all =
+      let sum : draws_before s k ≡ score_draws s = ap (draws_before s) all ∙ sym (draws_all s) in
+      let fits : draws_before s k < 2 ^ 64 = omega (arith, sum, few) in
+      let total : p.draws ≡ score_draws s = omega (arith, sum, drawn fits) in
+      let state = all_state at all in
+      (λ j. record { rng = record { 0 = state j }; draws = total j })
