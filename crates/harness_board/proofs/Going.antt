@@ -56,7 +56,7 @@ module _ {ops answers₀ answers : List ℕ} {board : Board} {at done : ℕ} (g 
   unfolding answers_of
   going_full h = let z : length answers₀ / 2 - done ≡ 0 = omega arith in ended (rw z)
 
-  module _ (said : Option Step) (is : stepped ops said ≡ step_of (registers board) (next_of (drop at ops))) (lt : done < length answers₀ / 2) where
+  module _ (said : Option Step) (after : Board) (is : stepped ops after said ≡ step_of (registers board) (next_of (drop at ops))) (lt : done < length answers₀ / 2) where
     one_more : length answers₀ / 2 - done ≡ suc (length answers₀ / 2 - (done + 1))
     one_more = omega arith
 
@@ -67,15 +67,15 @@ module _ {ops answers₀ answers : List ℕ} {board : Board} {at done : ℕ} (g 
         ended (rw (one_more, ← s))
 
     -- an operation's two words
-    more_words : (r : Step) → said ≡ Some r → (line : ℕ) → line ≡ digit (interrupt_of (registers r.board))
-        → answers_of (length answers₀ / 2 - done) (registers board) (drop at ops) ≡ r.answer ∷ line ∷ answers_of (length answers₀ / 2 - (done + 1)) (registers r.board) (drop r.next ops)
+    more_words : (r : Step) → said ≡ Some r → (line : ℕ) → line ≡ digit (interrupt_of (registers after))
+        → answers_of (length answers₀ / 2 - done) (registers board) (drop at ops) ≡ r.answer ∷ line ∷ answers_of (length answers₀ / 2 - (done + 1)) (registers after) (drop r.next ops)
     unfolding answers_of
     more_words r e line le =
-        let here : went (record { after = registers r.board; answer = r.answer }) (drop r.next ops) ≡ step_of (registers board) (next_of (drop at ops)) = rw e at is in
+        let here : went (record { after = registers after; answer = r.answer }) (drop r.next ops) ≡ step_of (registers board) (next_of (drop at ops)) = rw e at is in
         rw (one_more, ← here, le)
 
-    pub going_more : (r : Step) → said ≡ Some r → (line : ℕ) → line ≡ digit (interrupt_of (registers r.board))
-        → Going ops answers₀ (set (set answers (2 * done) r.answer) (2 * done + 1) line) r.board r.next (done + 1)
+    pub going_more : (r : Step) → said ≡ Some r → (line : ℕ) → line ≡ digit (interrupt_of (registers after))
+        → Going ops answers₀ (set (set answers (2 * done) r.answer) (2 * done + 1) line) after r.next (done + 1)
     going_more r e line le =
         let k = 2 * done in
         let two : 2 * (done + 1) ≡ suc (suc k) = omega arith in

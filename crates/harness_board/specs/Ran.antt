@@ -4,6 +4,7 @@ use Rattle.board.specs.Answer.{write_number}
 use Rattle.board.specs.Registers.{Registers, registers, opened, digit, byte_at, interrupt_of}
 use Rattle.board.specs.Write.{write_of}
 use Rattle.board.specs.Tick.{tick_of}
+use Rattle.board.specs.declared.registers.Board.{Board}
 use Rattle.harness_board.specs.Words.{Operation, write, read, tick, Next, next, stop, next_of}
 use Rattle.harness_board.specs.declared.step.Step.{Step}
 
@@ -26,10 +27,10 @@ abbrev pub step_of : Registers → Next → Stepped
 step_of m (next op ws) = went (done_of m op) ws
 step_of m stop = halted
 
--- what the program's step among the words `ops` stands for
-abbrev pub stepped : List ℕ → Option Step → Stepped
-stepped ops None = halted
-stepped ops (Some r) = went (record { after = registers r.board; answer = r.answer }) (drop r.next ops)
+-- what the program's step among the words `ops` stands for, with the board after it
+abbrev pub stepped : List ℕ → Board → Option Step → Stepped
+stepped ops board None = halted
+stepped ops board (Some r) = went (record { after = registers board; answer = r.answer }) (drop r.next ops)
 
 -- both words of a step, the second the interrupt line after it, 0 or 1, and then those of the others
 abbrev pub answered : (Registers → List ℕ → List ℕ) → Stepped → List ℕ

@@ -23,13 +23,11 @@ pub fn run_board(ops: &[u32], answers: &mut [u32]) -> usize
     let mut board = Board::new();
     let mut at = 0usize;
     for done in 0..room {
-        let Some(step) = step_at(board, ops, at) else {
+        let Some(step) = step_at(&mut board, ops, at) else {
             return done;
         };
-        let after = step.board;
         answers[2 * done] = step.answer;
-        answers[2 * done + 1] = bit(after.interrupt());
-        board = after;
+        answers[2 * done + 1] = bit(board.interrupt());
         at = step.next;
     }
     room

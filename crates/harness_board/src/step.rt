@@ -7,10 +7,10 @@ ghost use Rattle.harness_board.specs.Ran.{step_of, stepped};
 
 use board::{Board, Write, WriteRefusal};
 
-// The board after an operation, its first word and where the next operation starts.
+// An operation's first word and where the next operation starts. The board, whose queue holds 64 samples, is no part of
+// it: `step_at` changes it in place.
 #[derive(Clone, Copy)]
 pub(crate) struct Step {
-    pub(crate) board: Board,
     pub(crate) answer: u32,
     pub(crate) next: usize,
 }
@@ -75,9 +75,9 @@ fn write_words(board: Board, place: u32, words: &[u32]) -> Write
 }
 
 // The write whose place stands at `at`.
-fn write_step(board: Board, ops: &[u32], at: usize) -> Option<Step>
+fn write_step(board: &mut Board, ops: &[u32], at: usize) -> Option<Step>
     requires { at ≤ length ops.now }
-    ensures { stepped ops.now result ≡ step_of (registers board) (write_in (drop at ops.now)) }
+    ensures { stepped ops.now board.new result ≡ step_of (registers board.old) (write_in (drop at ops.now)) }
 {
     if ops.len() - at < 2 {
         return None;
@@ -91,10 +91,9 @@ fn write_step(board: Board, ops: &[u32], at: usize) -> Option<Step>
     let next = start + count;
     let words = &ops[start..next];
     if are_bytes(words) {
-        let write = write_words(board, place, words);
-        let after = write.board;
+        let write = write_words(*board, place, words);
+        *board = write.board;
         return Some(Step {
-            board: after,
             answer: board::write_number(write.outcome),
             next,
         });
@@ -103,23 +102,23 @@ fn write_step(board: Board, ops: &[u32], at: usize) -> Option<Step>
 }
 
 // The read whose place stands at `at`.
-fn read_step(board: Board, ops: &[u32], at: usize) -> Option<Step>
+fn read_step(board: &Board, ops: &[u32], at: usize) -> Option<Step>
     requires { at ≤ length ops.now }
-    ensures { stepped ops.now result ≡ step_of (registers board) (read_in (drop at ops.now)) }
+    ensures { stepped ops.now board.now result ≡ step_of (registers board.now) (read_in (drop at ops.now)) }
 {
     if at == ops.len() {
         return None;
     }
     Some(Step {
-        board,
         answer: word(board.read(ops[at])),
         next: at + 1,
     })
 }
 
-// The operation that starts at `at`; None where there is none, or a malformed one.
-pub(crate) fn step_at(board: Board, ops: &[u32], at: usize) -> Option<Step>
-    ensures { stepped ops.now result ≡ step_of (registers board) (next_of (drop at ops.now)) }
+// The operation that starts at `at`, done on the board; None, and the board as it was, where there is none, or a
+// malformed one.
+pub(crate) fn step_at(board: &mut Board, ops: &[u32], at: usize) -> Option<Step>
+    ensures { stepped ops.now board.new result ≡ step_of (registers board.old) (next_of (drop at ops.now)) }
 {
     if at >= ops.len() {
         return None;
@@ -133,9 +132,8 @@ pub(crate) fn step_at(board: Board, ops: &[u32], at: usize) -> Option<Step>
     }
     if kind == 2 {
         let tick = board.tick();
-        let after = tick.board;
+        *board = tick.board;
         return Some(Step {
-            board: after,
             answer: tick.sample,
             next: at + 1,
         });

@@ -15,7 +15,7 @@ pub shape_of-answers-in_default : goal.shape_of-answers-in_default
 shape_of-answers-in_default c = c.loop-done.invariant.0.kept
 
 pub returns-in_default : goal.returns-in_default
-returns-in_default c = going_halt c.loop-done.invariant.0 c.step_at.result c.step_at.ensures (omega arith) c.in_default.is
+returns-in_default c = going_halt c.loop-done.invariant.0 c.step_at.result _ c.step_at.ensures (omega arith) c.in_default.is
 
 pub bounds-answers-done-in-loop-done : goal.bounds-answers-done-in-loop-done
 bounds-answers-done-in-loop-done c =
@@ -28,7 +28,7 @@ loop-done-preserved c =
     let s = c.step_at in
     let h = c.loop-done.invariant in
     let line = c.bit.ensures ∙ ap digit c.interrupt.ensures in
-    (going_more h.0 s.result s.ensures (omega arith) c.in-Some.step c.in-Some.is _ line, h.1)
+    (going_more h.0 s.result _ s.ensures (omega arith) c.in-Some.step c.in-Some.is _ line, h.1)
 
 pub shape_of-answers : goal.shape_of-answers
 shape_of-answers c = c.loop-done.invariant.0.kept
